@@ -38,6 +38,8 @@ FORMS = {
     "sweep": ("sweep", r"swept \d+"),
     "stray": (r"stray \d+", r"delivered \d+ \w+"),
     "strike": (r"strike \d+", r"cancelled \d+ \w+"),
+    "link": (r"link \d+ \d+ \d+", r"linked \d+"),
+    "copy": (r"copy \d+", r"asked|copied \d+|copy failed (reading|writing)"),
 }
 # Whose step is which; the others are the pool's.
 STEPS_OF = {
@@ -123,6 +125,39 @@ class Owner:
 
 
 @dataclass
+class Copier:
+    """A copier: whom it reads and writes, how much it reads at once, and what it asks next, of whom; None once it ended."""
+
+    reader: int
+    writer: int
+    piece: int
+    call: list | None = None
+    rest: int = 0
+
+    def __post_init__(self):
+        self.call = ["read", str(self.piece)]
+
+    @property
+    def asked(self):
+        """The owner that it asks next."""
+        return self.reader if self.call[0] == "read" else self.writer
+
+    def hear(self, words):
+        """Its owner replied so: a rest is written, and after it more is read; at the end, and after a write of nothing, it flushes."""
+        if words[0] != "ok" or self.call[0] == "flush":
+            self.call = None
+            return
+        count = int(words[1])
+        self.rest = count if self.call[0] == "read" else self.rest - count
+        if count == 0:
+            self.call = ["flush"]
+        elif self.rest:
+            self.call = ["write", f"{self.rest} bytes"]
+        else:
+            self.call = ["read", str(self.piece)]
+
+
+@dataclass
 class Job:
     """A job: who holds it, what it does, how it stands, and what it has in mind for the owner's waker."""
 
@@ -198,6 +233,7 @@ class Player:
         self.story = Story(heading, steps)
         self.events, self.place = events, -1
         self.owners, self.tasks, self.jobs, self.hands = {}, {}, {}, {}
+        self.copiers = []
         self.started = self.arrived = self.stopped = 0
         self.open = {}
 
@@ -282,6 +318,8 @@ class Player:
 
     def party(self, words, act):
         """Who takes a step."""
+        if words[0] == "copy" and act == "asked":
+            return "owner", self.copiers[int(words[1])].asked
         kind = next((kind for kind, names in STEPS_OF.items() if words[0] in names), None)
         if kind is None or act == "nothing" and words[0] == "arrive":
             return POOL
@@ -373,11 +411,26 @@ class Player:
         """A poll is over."""
         call, owner.call = owner.call[0], None
         self.stand(lane, "poll")
+        for copier in self.copiers:
+            if copier.call and lane[1] == copier.asked and lane[1] in (copier.reader, copier.writer):
+                copier.hear(said.split(" "))
         if call == "close" and said == "ok" and not owner.is_closed:
             owner.is_closed = True
             self.stand(lane, "handle", "closed", "closed")
         if call == "inner" and said == "handle":
             self.stand(lane, "handle")
+
+    # ---- copiers
+
+    def see_link(self, words, act):
+        """A copier was made."""
+        self.copiers.append(Copier(*map(int, words[1:])))
+
+    def see_copy(self, words, act):
+        """A copier asks one of its owners, or tells its end."""
+        if act[0] == "asked":
+            copier = self.copiers[int(words[1])]
+            self.see_ask(["ask", str(copier.asked), *copier.call], act)
 
     # ---- tasks
 

@@ -7,7 +7,7 @@ use Rattle.blocking_laws.specs.declared.step.Answer.TheVariants.{Number, Gave, F
 use Rattle.blocking_laws.specs.declared.step.HandleCall.{HandleCall}
 use Rattle.blocking_laws.specs.declared.step.HandleCall.TheVariants.{Read, Write, Flush, Close, Seek, Next, Operate, OperateAgain, GetMut, IntoInner}
 use Rattle.blocking_laws.specs.declared.step.Step.{Step}
-use Rattle.blocking_laws.specs.declared.step.Step.TheVariants.{New, Ask, Own, DropOwner, Spawn, OfTask, Arrive, Take, Job, Io, End, Wait, Late, SetLimit, Sweep, Stray, Strike}
+use Rattle.blocking_laws.specs.declared.step.Step.TheVariants.{New, Ask, Own, DropOwner, Spawn, OfTask, Arrive, Take, Job, Io, End, Wait, Late, SetLimit, Sweep, Stray, Strike, Link, Copy}
 use Rattle.blocking_laws.specs.declared.step.TaskCall.{TaskCall}
 use Rattle.blocking_laws.specs.declared.step.TaskCall.TheVariants.{Poll, Cancel, Detach, Drop}
 use Rattle.blk_commands.specs.Bytes.{bytes_of}
@@ -47,7 +47,8 @@ numbered_step name word =
     else (if bytes_eq name (codes "limit") then option_map SetLimit (number_of 64 word)
     else (if bytes_eq name (codes "stray") then option_map Stray (number_of 64 word)
     else (if bytes_eq name (codes "strike") then option_map Strike (number_of 64 word)
-    else None))))))))))
+    else (if bytes_eq name (codes "copy") then option_map Copy (number_of 64 word)
+    else None)))))))))))
 
 -- ---- three words
 
@@ -118,12 +119,17 @@ answer_of kind value =
     else (if bytes_eq kind (codes "fault") then option_map Failed (number_of 64 value)
     else None)))
 
--- what four words ask for: a call of an owner, or an answer to a worker's job
+-- the copier that reads this owner, writes the one that the first word names, and reads at most as many bytes at once as the second says
+abbrev pub link_of : ℕ → List ℕ → List ℕ → Option Step
+link_of a writer piece = option_and_then (λ b. option_map (Link a b) (number_of 64 piece)) (number_of 64 writer)
+
+-- what four words ask for: a call of an owner, an answer to a worker's job, or a copier that is made
 abbrev pub longer_step : List ℕ → List ℕ → List ℕ → List ℕ → Option Step
 longer_step name word what value =
     if bytes_eq name (codes "ask") then option_and_then (λ h. option_map (Ask h) (longer_call what value)) (number_of 64 word)
     else (if bytes_eq name (codes "io") then option_and_then (λ w. option_map (Io w) (answer_of what value)) (number_of 64 word)
-    else None)
+    else (if bytes_eq name (codes "link") then option_and_then (λ a. link_of a what value) (number_of 64 word)
+    else None))
 
 -- ---- all words
 

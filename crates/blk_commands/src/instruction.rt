@@ -1,6 +1,6 @@
 //! The instructions that words are.
 ghost use Rattle.std.specs.Prelude.{◌≡◌, IfOk, map};
-ghost use Rattle.blk_commands.specs.Instructions.{actor_named, answer_of, instruction_of, longer_call, longer_instruction, longer_step, numbered_step, plain_answer, plain_call, plain_step, task_call, worded_step, words_of};
+ghost use Rattle.blk_commands.specs.Instructions.{actor_named, answer_of, instruction_of, link_of, longer_call, longer_instruction, longer_step, numbered_step, plain_answer, plain_call, plain_step, task_call, worded_step, words_of};
 
 use crate::bytes::bytes_of;
 use crate::number::{count, number};
@@ -81,6 +81,7 @@ fn numbered_step(name: &str, word: &str) -> Option<Step>
         "limit" => count(word).map(Step::SetLimit),
         "stray" => number(word).map(Step::Stray),
         "strike" => number(word).map(Step::Strike),
+        "copy" => count(word).map(Step::Copy),
         _ => None,
     }
 }
@@ -158,7 +159,7 @@ fn plain_answer(kind: &str) -> Option<Answer>
     }
 }
 
-// The step that four words ask for: a call of an owner, or an answer to a worker's job.
+// The step that four words ask for: a call of an owner, an answer to a worker's job, or a copier that is made.
 fn longer_step(
     alloc: Global,
     name: &str,
@@ -180,8 +181,16 @@ fn longer_step(
             let answer = answer_of(alloc, what, value)?;
             Ok(answer.map(|answer| Step::Io(party, answer)))
         }
+        "link" => Ok(link_of(party, what, value)),
         _ => Ok(None),
     }
+}
+
+// The copier that reads this owner, writes the one that the first word names, and reads at most as many bytes at once as the second says.
+fn link_of(reader: usize, writer: &str, piece: &str) -> Option<Step>
+    ensures { result ≡ link_of reader writer.now piece.now }
+{
+    Some(Step::Link(reader, count(writer)?, count(piece)?))
 }
 
 // The call of an owner that two words ask for.

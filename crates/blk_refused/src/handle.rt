@@ -4,7 +4,7 @@ use std::alloc::Global;
 use std::fmt::{Debug, Formatter};
 use std::io::{Cursor, Read, Seek, SeekFrom, Write};
 use std::sync::Arc;
-use std::sync::atomic::{AtomicBool, Ordering};
+use std::sync::atomic::{AtomicBool, AtomicUsize, Ordering};
 use std::{fmt, io, thread};
 
 /// How often is looked for what has to come, before it is said that it doesn't: for some seconds.
@@ -13,16 +13,18 @@ pub(crate) const LOOKS: u32 = 5_000_000;
 /// How many bytes there are. Byte i is i as `u8`.
 pub(crate) const BYTES: u64 = 1_000;
 
-/// What keeps jobs from going on while it is shut.
+/// What keeps jobs from going on while it is shut, and counts the handles that are gone.
 #[derive(Drop)]
 pub(crate) struct Gate {
     is_open: AtomicBool,
+    gone: AtomicUsize,
 }
 
 impl Gate {
     pub(crate) fn new() -> Gate {
         Gate {
             is_open: AtomicBool::new(true),
+            gone: AtomicUsize::new(0),
         }
     }
 
@@ -32,6 +34,11 @@ impl Gate {
 
     pub(crate) fn open(&self) {
         self.is_open.store(true, Ordering::SeqCst);
+    }
+
+    /// How many of its handles are gone.
+    pub(crate) fn gone(&self) -> usize {
+        self.gone.load(Ordering::SeqCst)
     }
 
     /// Waits until the gate is open. (at one that nobody opens, no longer than anybody looks)
@@ -46,10 +53,16 @@ impl Gate {
 }
 
 /// The handle.
-#[derive(Drop)]
 pub(crate) struct Gated {
     cursor: Cursor<Vec<u8>>,
     gate: Arc<Gate>,
+}
+
+impl Drop for Gated {
+    fn drop(self) {
+        let Gated { cursor: _, gate } = self;
+        let _ = gate.gone.fetch_add(1, Ordering::SeqCst);
+    }
 }
 
 impl Gated {

@@ -10,6 +10,7 @@
 //! | `begins KIND [OLDER]` | a session of this kind begins; behind an older one, which it stops first |
 //! | `whole` | a read to the end |
 //! | `ends KIND`, `stops KIND`, `drops KIND` | a session, which has begun, comes to its end, is stopped, or loses its owner, while all is refused |
+//! | `inside KIND`, `short KIND`, `gone KIND` | many owners, whose jobs wait, leave where the one worker is inside a call and there may be no other, where another may be asked for, or where none is left |
 //! | `leaves` | calls are awaited, cancelled, dropped and detached while all is refused |
 #![tactic(auto)]
 
@@ -17,6 +18,7 @@ mod calls;
 mod handle;
 mod kind;
 mod kinds;
+mod leaving;
 mod mark;
 mod running;
 mod scene;
@@ -25,6 +27,7 @@ mod whole;
 
 use crate::kind::Kind;
 use crate::kinds::{Carrier, Kinds};
+use crate::leaving::Staff;
 use crate::running::End;
 use blocking::{Executor, Host};
 use std::process::ExitCode;
@@ -62,6 +65,7 @@ enum Scenario {
     Begins(Kind, Option<Kind>),
     Whole,
     Runs(Kind, End),
+    Left(Kind, Staff),
     Leaves,
 }
 
@@ -79,8 +83,16 @@ impl Scenario {
             ),
             "whole" => Scenario::Whole,
             "leaves" => Scenario::Leaves,
-            _ => Scenario::Runs(Kind::by_name(first)?, End::by_name(name)?),
+            _ => Scenario::of_kind(name, Kind::by_name(first)?)?,
         })
+    }
+
+    fn of_kind(name: &str, kind: Kind) -> Option<Scenario> {
+        match (End::by_name(name), Staff::by_name(name)) {
+            (Some(end), _) => Some(Scenario::Runs(kind, end)),
+            (None, Some(staff)) => Some(Scenario::Left(kind, staff)),
+            (None, None) => None,
+        }
     }
 
     // What of it is wrong, if anything is.
@@ -89,7 +101,7 @@ impl Scenario {
             Scenario::Executor => calls::executor(rt),
             Scenario::Calls(count) => calls::calls(rt, count),
             Scenario::Leaves => calls::leaves(rt),
-            Scenario::Begins(..) | Scenario::Whole | Scenario::Runs(..) => {
+            Scenario::Begins(..) | Scenario::Whole | Scenario::Runs(..) | Scenario::Left(..) => {
                 // (one worker at most, which isn't started yet)
                 match Executor::<Kinds<H>, H>::new(rt, Some("1")) {
                     Ok(executor) => self.lend(executor),
@@ -106,6 +118,7 @@ impl Scenario {
         match self {
             Scenario::Begins(kind, older) => session::begins(executor, kind, older),
             Scenario::Runs(kind, end) => running::runs(executor, kind, end),
+            Scenario::Left(kind, staff) => leaving::leave(executor, kind, staff),
             Scenario::Whole => whole::reads(executor),
             Scenario::Executor | Scenario::Calls(_) | Scenario::Leaves => Ok(None),
         }

@@ -124,11 +124,23 @@ fn begins_jump<J: Job + Carries<OpJob<Jump, Gated, H>>, H: Host>(
 }
 
 impl<J: Carrier<H>, H: Host> Scene<J, H> {
-    /// A handle that is with its owner, whose pipes hold so much.
+    /// A handle that is with its owner, whose pipes hold so much, with a gate of its own.
     pub(crate) fn new(rt: H, executor: Executor<J, H>, capacity: usize) -> io::Result<Scene<J, H>>
         requires { 0 < capacity }
     {
         let gate = Arc::new(rt.alloc(), Gate::new())?;
+        Scene::at(rt, executor, capacity, gate)
+    }
+
+    /// The same, behind this gate.
+    pub(crate) fn at(
+        rt: H,
+        executor: Executor<J, H>,
+        capacity: usize,
+        gate: Arc<Gate>,
+    ) -> io::Result<Scene<J, H>>
+        requires { 0 < capacity }
+    {
         let handle = Gated::new(rt.alloc(), Arc::try_clone(&gate)?)?;
         let queue = Queue::new(&rt, Doorbell::parking())?;
         // (once, so that the queue has its memory)

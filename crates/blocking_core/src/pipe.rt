@@ -10,11 +10,13 @@ use std::marker::Model;
 mod flat;
 mod lending;
 mod ring;
+mod seats;
 mod store;
 
 pub use flat::{FlatMemory, FlatStore};
 pub use lending::{LendingMemory, LendingStore};
 pub use ring::{RingMemory, RingStore};
+pub use seats::{OfItemRing, Seats};
 pub use store::{CopyStore, Store};
 
 /// How many bytes a pipe holds where nobody says otherwise.

@@ -16,7 +16,7 @@ use Rattle.blocking_laws.specs.Answers.{wait_act}
 use Rattle.blocking_laws.specs.Jobs.{lets_go}
 use Rattle.blocking_laws.specs.Seen.{has_timed_out}
 use Rattle.blocking_laws.specs.declared.event.Act.{Act}
-use Rattle.blocking_laws.specs.declared.event.Act.TheVariants.{Made, Asked, OwnerClosed, Got, GotItem, GotEnd, Filled, FillShut, Back, ResultGot, Replied, Accepted, Refused, JobWoken, JobCancelled, LimitSet, Swept, Waits, TaskGot, TaskGotNone, TaskDetached, Arrived, Took, TookDropped, TookNone, Ended, HandedOut, NoAction}
+use Rattle.blocking_laws.specs.declared.event.Act.TheVariants.{Made, Asked, OwnerClosed, Got, GotItem, GotEnd, Filled, FillShut, Back, ResultGot, Replied, Accepted, Refused, JobWoken, JobCancelled, LimitSet, Swept, Waits, TaskGot, TaskGotNone, TaskDetached, Arrived, Took, TookDropped, TookNone, Ended, HandedOut, Linked, Copied, CopyFailed, NoAction}
 use Rattle.blocking_laws.specs.declared.event.Event.{Event}
 use Rattle.blocking_laws.specs.declared.event.Party.{Party}
 use Rattle.blocking_laws.specs.declared.event.Party.TheVariants.{Worker, Pool}
@@ -259,6 +259,9 @@ is_aside Waits = true
 is_aside (TaskGot n) = true
 is_aside TaskGotNone = true
 is_aside TaskDetached = true
+is_aside (Linked k) = true
+is_aside (Copied n) = true
+is_aside (CopyFailed side) = true
 is_aside NoAction = true
 is_aside _ = false
 

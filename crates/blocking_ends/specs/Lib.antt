@@ -1,4 +1,5 @@
 pub mod Answers
 pub mod Counted
+pub mod Rings
 pub mod Rules
 pub mod Sections

@@ -146,6 +146,7 @@ impl<X: Copy, R: PlaceRule<X>, S: CopyStore<X>, H: Wait + Copy> DrainEnd<X, R, S
         ensures kept { Keeps cx.old cx.new }
     {
         // (asked without a waker, so that what is there needs none)
+        // meeting: Look
         let Answered { answer, spare } = self.ask(None);
         match answer {
             Fetched::Waits(_) => {}
@@ -153,7 +154,9 @@ impl<X: Copy, R: PlaceRule<X>, S: CopyStore<X>, H: Wait + Copy> DrainEnd<X, R, S
         }
         // The waker of an earlier poll is used again, since one that is dropped wakes.
         let mut waker = spare.flatten();
+        // meeting: Register
         let _pending: Poll<()> = cx.register(&self.source, &mut waker);
+        // meeting: Ask
         let Answered { answer, spare: _ } = self.ask(waker);
         answer
     }

@@ -136,6 +136,7 @@ impl<X: Copy, R: PlaceRule<X>, S: CopyStore<X>, H: Wait + Copy> FillEnd<X, R, S,
     {
         self.make_ready(items);
         // (asked without a waker, so that what is there needs none)
+        // meeting: Look
         let Answered { answer, spare } = self.ask(None, items);
         match answer {
             Filled::Waits(_) => {}
@@ -143,7 +144,9 @@ impl<X: Copy, R: PlaceRule<X>, S: CopyStore<X>, H: Wait + Copy> FillEnd<X, R, S,
         }
         // The waker of an earlier poll is used again, since one that is dropped wakes.
         let mut waker = spare.flatten();
+        // meeting: Register
         let _pending: Poll<()> = cx.register(&self.source, &mut waker);
+        // meeting: Ask
         let Answered { answer, spare: _ } = self.ask(waker, items);
         answer
     }

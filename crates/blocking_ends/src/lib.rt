@@ -8,6 +8,7 @@ mod locked;
 mod pair;
 mod peek_end;
 mod recv_end;
+mod ring;
 mod rule;
 mod send_end;
 
@@ -20,5 +21,9 @@ pub use pair::{
 };
 pub use peek_end::PeekEnd;
 pub use recv_end::RecvEnd;
+pub use ring::{
+    ItemRecvEnd, ItemSendEnd, ItemSending, JobSeated, SeenEnd, SeenShut, ToldEnd, WhyUnsent,
+    link_items,
+};
 pub use rule::{AnyPlace, PlaceRule};
 pub use send_end::SendEnd;

@@ -142,6 +142,7 @@ impl<X: Drop, R: PlaceRule<X>, S: Store<X>, H: Wait + Copy> PeekEnd<X, R, S, H> 
     {
         let more = count - count.min(self.hand.len());
         let mut pipe = Self::enter(&self.pipe, &self.rt, &self.consumed, &self.lent, more);
+        // meeting: Leave, or Unseat
         let waker = pipe.consume(count);
         self.consumed = pipe.tally_received();
         self.lent = pipe.loan();
@@ -157,6 +158,7 @@ impl<X: Drop, R: PlaceRule<X>, S: Store<X>, H: Wait + Copy> PeekEnd<X, R, S, H> 
         ensures closed { IsSome self.new.closed }
     {
         let mut pipe = Self::enter(&self.pipe, &self.rt, &self.consumed, &self.lent, 0);
+        // meeting: Leave
         let waker = pipe.close_job();
         self.closed = pipe.closed();
         waker

@@ -94,6 +94,7 @@ impl<X: Drop, R: PlaceRule<X>, S: Store<X>, H: Wait + Copy> RecvEnd<X, R, S, H> 
         ensures kept { Keeps cx.old cx.new }
     {
         // (asked without a waker, so that what is there needs none)
+        // meeting: Look
         let Answered { answer, spare } = self.ask(None);
         match answer {
             Received::Waits(_) => {}
@@ -101,7 +102,9 @@ impl<X: Drop, R: PlaceRule<X>, S: Store<X>, H: Wait + Copy> RecvEnd<X, R, S, H> 
         }
         // The waker of an earlier poll is used again, since one that is dropped wakes.
         let mut waker = spare.flatten();
+        // meeting: Register
         let _pending: Poll<()> = cx.register(&self.source, &mut waker);
+        // meeting: Ask
         let Answered { answer, spare: _ } = self.ask(waker);
         answer
     }
@@ -155,13 +158,16 @@ impl<X: Copy, R: PlaceRule<X>, S: CopyStore<X>, H: Wait + Copy> RecvEnd<X, R, S,
         ensures kept { Keeps cx.old cx.new }
     {
         // (as where one is received)
+        // meeting: Look
         let Answered { answer, spare } = self.ask_for_many(None, out);
         match answer {
             Drained::Waits(_) => {}
             ready => return ready,
         }
         let mut waker = spare.flatten();
+        // meeting: Register
         let _pending: Poll<()> = cx.register(&self.source, &mut waker);
+        // meeting: Ask
         let Answered { answer, spare: _ } = self.ask_for_many(waker, out);
         answer
     }

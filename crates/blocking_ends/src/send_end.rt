@@ -90,6 +90,7 @@ impl<X: Drop, R: PlaceRule<X>, S: Store<X>, H: Wait + Copy> SendEnd<X, R, S, H> 
         ensures back { ComesBack item result }
     {
         let mut pipe = Self::enter(&self.pipe, &self.rt, &self.sent, &self.free);
+        // meeting: Leave, or nothing where the pipe is full or shut
         let sending = pipe.send(me, item);
         self.sent = pipe.tally_sent();
         drop(pipe);
@@ -107,6 +108,7 @@ impl<X: Drop, R: PlaceRule<X>, S: Store<X>, H: Wait + Copy> SendEnd<X, R, S, H> 
         ensures closed { IsSome self.new.closed }
     {
         let mut pipe = Self::enter(&self.pipe, &self.rt, &self.sent, &self.free);
+        // meeting: Leave
         let waker = pipe.close_job();
         self.closed = pipe.closed();
         waker
@@ -148,6 +150,7 @@ impl<X: Copy, R: PlaceRule<X>, S: CopyStore<X>, H: Wait + Copy> SendEnd<X, R, S,
         ensures free { self.new.free ≡ self.old.free - sent_by_put result (length items.now) }
     {
         let mut pipe = Self::enter(&self.pipe, &self.rt, &self.sent, &self.free);
+        // meeting: Leave, or Unseat; nothing where the items are lost
         let put = pipe.put(items);
         self.sent = pipe.tally_sent();
         drop(pipe);
@@ -170,6 +173,7 @@ impl<X: Copy, R: PlaceRule<X>, S: CopyStore<X>, H: Wait + Copy> SendEnd<X, R, S,
         let long = piece.len();
         let first = piece.first().copied();
         let mut pipe = Self::enter(&self.pipe, &self.rt, &self.sent, &self.free);
+        // meeting: Leave, or Unseat; nothing where the items are lost
         let put = pipe.put_piece(piece, count);
         self.sent = pipe.tally_sent();
         drop(pipe);

@@ -1,8 +1,8 @@
 //! Where a pool's calls ask for threads, and the spawner answers.
 use blocking_core::pool::{StartRefused, Starter};
-use std::sync::{Condvar, Mutex, Wait};
+use std::sync::{Condvar, Mutex, MutexGuard, Wait};
 
-// One request at a time, since requests come under the pool's lock.
+// One request at a time. Those of the pool's calls come under its lock; who asks by a starter of its own may come beside them, and waits.
 #[derive(Drop)]
 enum Request {
     None,
@@ -25,14 +25,27 @@ impl Desk {
         }
     }
 
+    // Takes the lock where nobody else asks.
+    fn enter<R: Wait>(&self, rt: &R) -> MutexGuard<'_, Request> {
+        let mut request = self.request.lock(rt);
+        for _ in rt.forever() {
+            if let Request::None = *request {
+                return request;
+            }
+            request = self.changed.wait(rt, request);
+        }
+        unreachable!()
+    }
+
     // Asks for the worker of this number, and answers whether it was started.
     fn ask<R: Wait>(&self, rt: &R, number: u64) -> bool {
-        let mut request = self.request.lock(rt);
+        let mut request = self.enter(rt);
         *request = Request::Asked(number);
         self.changed.notify_all();
         for _ in rt.forever() {
             if let Request::Answered(started) = *request {
                 *request = Request::None;
+                self.changed.notify_all();
                 return started;
             }
             request = self.changed.wait(rt, request);
@@ -85,6 +98,7 @@ impl<'a, H: Wait + Copy> Starter for ThreadStarter<'a, H> {
 
     fn start(&mut self, number: u64) -> Result<(), StartRefused> {
         for _ in self.rt.forever() {
+            // schedule: Start, or Refuse
             if self.desk.ask(&self.rt, number) {
                 return Ok(());
             }

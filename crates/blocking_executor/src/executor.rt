@@ -40,7 +40,8 @@ impl<J: Job + Send + 'static, H: Runtime + Threads + Send + Sync + 'static> Exec
     ghost use Rattle.blocking_executor.specs.Lasting.{Lasts};
 
     /// A pool with no worker yet, and its spawner. The setting is the text of a limit, as of the environment's variable
-    /// [`MAX_THREADS_ENV`](blocking_core::limit::MAX_THREADS_ENV); any text will do.
+    /// [`MAX_THREADS_ENV`](blocking_core::limit::MAX_THREADS_ENV); any text will do. None is the limit of 500. No environment is
+    /// read here.
     ///
     /// `Memory` where there was none for the shared state, and `NoWorker` where the spawner's thread couldn't be had.
     pub fn new(rt: H, setting: Option<&str>) -> Result<Executor<J, H>, Refusal> {
@@ -128,13 +129,17 @@ impl<J: Job, H: Runtime> Executor<J, H> {
     // that would be notified.
     fn leave(&self, held: MutexGuard<'_, Held<J>>, bell: Bell) {
         let claimed = match bell.kind() {
+            // schedule: Claim
             BellKind::One => self.shared.lookout.claim(),
             BellKind::Silent | BellKind::All => None,
         };
+        // schedule: Tell
         self.shared.lookout.tell(held.is_queued());
+        // schedule: LetGo
         drop(held);
         match (bell.kind(), claimed) {
             (BellKind::One, Some(claimed)) => bell.heard(claimed),
+            // schedule: Ring
             _ => bell.ring(&self.shared.condvar),
         }
     }
@@ -149,6 +154,7 @@ impl<J: Job, H: Runtime> Executor<J, H> {
         ensures { IfErr result (λ refused. refused.back ≡ job) }
     {
         let mut starter = self.starter();
+        // schedule: Add, or Nothing
         let mut held = self.enter();
         let (answer, bell) = held.add(job, &mut starter);
         self.leave(held, bell);
@@ -158,6 +164,7 @@ impl<J: Job, H: Runtime> Executor<J, H> {
     /// Wakes a job, as [`Pool::wake`](blocking_core::pool::Pool::wake).
     pub fn wake(&self, note: WakeNote) -> Woke {
         let mut starter = self.starter();
+        // schedule: Wake, or Nothing
         let mut held = self.enter();
         let (woke, bell) = held.wake(note, &mut starter);
         self.leave(held, bell);
@@ -166,8 +173,12 @@ impl<J: Job, H: Runtime> Executor<J, H> {
 
     /// Puts the parked jobs that bear a mark back into the queue, where they are handed out to be dropped, and answers how
     /// many they were. An idle worker does so too after each wait that timed out.
+    ///
+    /// However many they are, one idle worker is notified, and drops them one after another. The others sleep on until another
+    /// call notifies them, or until their own wait times out, after half a second at most.
     pub fn sweep(&self) -> usize {
         let mut starter = self.starter();
+        // schedule: Sweep, or Nothing
         let mut held = self.enter();
         let (count, bell) = held.sweep(&mut starter);
         self.leave(held, bell);
@@ -179,12 +190,14 @@ impl<J: Job, H: Runtime> Executor<J, H> {
         ensures busy { result.workers ≡ result.idle + result.running }
         ensures order { result.arriving ≤ result.idle }
     {
+        // schedule: Nothing (to claim, to tell and to ring would change nothing here)
         self.enter().counts()
     }
 
     /// What a worker does from its arrival until it stops. No lock is held while a job runs or is dropped.
     pub fn work<S: Starter>(&self, starter: &mut S) {
         let rt = self.rt;
+        // schedule: Arrive, Take
         let mut held = self.enter();
         let (took, bell) = held.arrive(starter);
         self.leave(held, bell);
@@ -214,6 +227,7 @@ impl<J: Job, H: Runtime> Executor<J, H> {
         let mut turn = turn;
         let mut finish = finish;
         for _ in rt.forever() {
+            // schedule: End and Take, or GoOn
             let mut held = self.enter();
             let (ended, bell) = held.end(turn, finish, starter);
             self.leave(held, bell);
@@ -239,15 +253,18 @@ impl<J: Job, H: Runtime> Executor<J, H> {
         let rt = self.rt;
         self.shared.lookout.look();
         for _ in rt.forever() {
+            // schedule: Wait (to sleep is a part of it)
             let mut held = self.enter();
             let mut timed_out = false;
             if !held.is_queued() && !held.is_over_limit() {
                 let idle = Duration::from_millis(IDLE_MILLIS);
+                // schedule: TimeOut, WakeUp, Return
                 let (woken, waited) = self.shared.condvar.wait_timeout(&rt, held, idle);
                 held = woken;
                 timed_out = waited.timed_out();
             }
             if held.has_idle() {
+                // schedule: SweepLate, StayOrStop, Take
                 let (took, bell) = held.after_wait(pass, timed_out, starter);
                 self.leave(held, bell);
                 return took;
@@ -273,6 +290,7 @@ fn run<J: Job, R: Wait>(turn: &Turn, mut job: J, rt: &R) -> Finish<J> {
 pub fn set_max_blocking_threads<J: Job, H: Runtime>(executor: &Executor<J, H>, threads: usize)
     requires { 0 < threads }
 {
+    // schedule: SetLimit
     let mut held = executor.enter();
     let bell = held.set_limit(threads);
     executor.leave(held, bell);

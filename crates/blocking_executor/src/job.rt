@@ -123,6 +123,7 @@ impl<F: Call<Out: Drop> + Drop, H: Wait + Copy> CallJob<F, H> {
         ensures { IsAnswered Action.Deliver self.new.next }
     {
         if let Stage::Deliver(Some(waker)) = mem::replace(&mut self.stage, Stage::Done) {
+            // meeting: Call
             waker.wake();
         }
         self.core.answer(Answer::Delivered);
@@ -143,6 +144,7 @@ impl<F: Call<Out: Drop> + Drop, H: Wait + Copy> Drop for CallJob<F, H> {
             return;
         }
         if let Some(Some(waker)) = link.give_up(&rt) {
+            // meeting: Call
             waker.wake();
         }
     }

@@ -52,6 +52,7 @@ impl Lookout {
 
     /// Looks for a job for a while, unless another worker does that may be claimed. The caller takes the pool's lock next.
     pub(crate) fn look(&self) {
+        // schedule: Look
         if self.is_manned.swap(true, Ordering::SeqCst) {
             return;
         }
@@ -61,6 +62,7 @@ impl Lookout {
             }
             yield_now();
         }
+        // schedule: EndLook
         self.is_manned.store(false, Ordering::SeqCst);
     }
 }

@@ -147,6 +147,7 @@ impl<F: Call<Out: Drop>, H: Wait + Copy> Future for Task<F, H> {
             Looked::Seat(seat) => seat,
         };
         let mut waker: Option<Waker> = seat.flatten().or(self.unseated.take());
+        // meeting: Register
         let pending = cx.register(&self.source, &mut waker);
         let (answer, spare) = self.link.poll(&self.rt, waker);
         match answer {
@@ -277,6 +278,7 @@ impl<F: Call<Out: Drop>, H: Wait + Copy> Future for Cancel<F, H> {
             Looked::Value(late) => return self.settle(Slotted::Value(late)),
             Looked::Seat(seat) => seat.flatten(),
         };
+        // meeting: Register
         let _pending: Poll<Self::Output> = cx.register(&self.source, &mut waker);
         let (answer, spare) = self.link.poll(&self.rt, waker);
         drop(spare);

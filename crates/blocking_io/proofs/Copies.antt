@@ -8,13 +8,14 @@ use Rattle.std.specs.declared.io.Error.{Error}
 use Rattle.futures.specs.Poll.{IfReady, OnPending}
 use Rattle.futures.specs.declared.task.Poll.{Poll}
 use Rattle.futures.specs.declared.task.Poll.TheVariants.{Ready, Pending}
-use Rattle.blocking_io.specs.Copies.{Carries, EndsWith, MayEnd, Runs, Reaches, Turns}
-use Rattle.blocking_io.proofs.Carrying.{reaches_carry}
+use Rattle.blocking_io.specs.Copies.{EndsWith, MayEnd, Runs, Reaches, Turns}
+use Rattle.blocking_io.proofs.Copied.{may_end}
 use Rattle.blocking_io.specs.CopySteps.{is_over}
+use Rattle.blocking_io.specs.Polled.{ReaderPoll, WriterPoll}
 use Rattle.blocking_io.specs.declared.copy.Copier.{Copier}
 use Rattle.blocking_io.specs.declared.copy.CopyFault.{CopyFault}
 
-module _ {A B : Type 0} (reads : A → List ℕ → A → Type 0) (writes : B → List ℕ → B → Type 0) where
+module _ {A B : Type 0} (reads : A → ReaderPoll → A → Type 0) (writes : B → WriterPoll → B → Type 0) where
   -- one more turn
   pub runs_on : (old mid new : Copier A B) (answers : List (CopyAnswer Error)) (answer : CopyAnswer Error)
       → Runs reads writes old answers mid → Turns reads writes mid answer new → Runs reads writes old (answers ++ (answer ∷ [])) new
@@ -34,15 +35,15 @@ module _ {A B : Type 0} (reads : A → List ℕ → A → Type 0) (writes : B �
   reaches_join old mid new first rest = (first.0 ++ rest.0, runs_join old mid new first.0 rest.0 first.1 rest.1)
 
   -- a copier that is ready gives what its trait says, and one that waits no less than before
-  pub ends_by : (old new : Copier A B) (r : Poll (Result ℕ CopyFault)) → Reaches reads writes old new
-      → Carries reads writes old new → IfReady r (λ out. EndsWith new.core.next out) → IfReady r (MayEnd reads writes old)
-  ends_by old new (Ready out) reaches carries ends = (new, reaches, carries, ends)
-  ends_by old new Pending reaches carries ends = tt
+  pub ends_by : (old new : Copier A B) (r : Poll (Result ℕ CopyFault)) → Reaches reads writes old new → IfReady r (λ out. EndsWith new.core.next out)
+      → IfReady r (MayEnd reads writes old)
+  ends_by old new (Ready out) reaches ends = may_end reads writes old new out reaches ends
+  ends_by old new Pending reaches ends = tt
 
   pub same_ends : (old new : Copier A B) (r : Poll (Result ℕ CopyFault)) → Reaches reads writes old new
       → OnPending r ((out : Result ℕ CopyFault) → MayEnd reads writes new out → MayEnd reads writes old out)
   same_ends old new (Ready out) reaches = tt
-  same_ends old new Pending reaches = λ out may. let all = reaches_join old new may.0 reaches may.1 in (may.0, all, reaches_carry reads writes old may.0 all, may.3)
+  same_ends old new Pending reaches = λ out may. may_end reads writes old may.new out (reaches_join old new may.new reaches may.reaches) may.ends
 
 -- what a poll may be asked again with
 pub three_on : {A P Q : Type 0} (R : Type 0) (r : Poll A) → P × Q → OnPending r R → OnPending r (P × Q × R)

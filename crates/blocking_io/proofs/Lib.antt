@@ -1,4 +1,5 @@
 mod Carrying
+mod Copied
 mod Copies
 mod CopyBytes
 mod Futures

@@ -1,5 +1,5 @@
 -- What answers a copy's actions, and how its machine stands over the piece that was read.
-use Rattle.std.specs.Prelude.{◌≡◌, ◌-◌, ◌<◌, ◌≤◌, suc, ℕ, Bool, true, false, List, [], take, slice_range}
+use Rattle.std.specs.Prelude.{◌≡◌, ◌-◌, ◌<◌, ◌≤◌, suc, ℕ, Bool, true, false, List, [], slice_range}
 use Rattle.std.specs.Coded.{×_prop, Unit-prop, le_prop}
 use Rattle.std.proofs.Math.Bool.{Bool-set}
 use Rattle.std.proofs.Math.Nat.{ℕ_set}
@@ -34,12 +34,6 @@ module _ {E : Type 0} where
   IfWaits by.Pending P = P
   IfWaits answer P = Unit {0}
 
-  -- the first of these bytes, as many as the answer tells
-  abbrev pub told_bytes : CopyAnswer E → List ℕ → List ℕ
-  told_bytes (by.Gave count) bytes = take count bytes
-  told_bytes (by.Took count) bytes = take count bytes
-  told_bytes answer bytes = []
-
   -- what was read and is to be written yet
   abbrev pub rest_of : CopyAction E → List ℕ → List ℕ
   rest_of (Write from to) piece = slice_range piece from to
@@ -65,10 +59,11 @@ module _ {E : Type 0} where
   StandsAt (Done (Writing why)) copied short length = Unit {0}
 
   abbrev pub Stands : CopyMachine E → ℕ → Type 0
-  Stands core length = StandsAt core.next core.copied core.is_short length × (core.piece ≡ length)
+  Stands core length = StandsAt core.next core.copied core.is_short length × ((core.piece ≡ length) × (0 < length))
 
   pub stands_prop : (core : CopyMachine E) (length : ℕ) → IsProp (Stands core length)
-  stands_prop core length = ×_prop (at_prop core.next core.copied core.is_short length) (ℕ_set core.piece length)
+  stands_prop core length =
+      ×_prop (at_prop core.next core.copied core.is_short length) (×_prop (ℕ_set core.piece length) (le_prop {n = suc 0} {m = length}))
     where
       at_prop : (action : CopyAction E) (copied : ℕ) (short : Bool) (length : ℕ) → IsProp (StandsAt action copied short length)
       at_prop (Read most) copied short length = ×_prop (ℕ_set most length) (Bool-set short false)

@@ -1,4 +1,4 @@
 pub mod Copies
 pub mod CopyFaults
 pub mod CopySteps
-pub mod Moved
+pub mod Polled

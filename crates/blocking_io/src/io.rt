@@ -1,8 +1,8 @@
 //! What polls of a lent handle of the system ask and answer.
-ghost use Rattle.std.specs.Prelude.{◌≡◌, ◌≤◌, ◌↔◌, ℕ, List, [], length, IfOk};
+ghost use Rattle.std.specs.Prelude.{◌≡◌, ◌≤◌, ◌↔◌, length, IfOk};
 ghost use Rattle.futures.specs.Poll.{IfReady, OnPending};
 ghost use Rattle.futures.specs.Task.{IsArmed, Keeps};
-ghost use Rattle.blocking_io.specs.Moved.{moved};
+ghost use Rattle.blocking_io.specs.Polled.{ReaderPoll, WriterPoll, OfFlush, OfRead, OfWrite, with_bytes};
 
 use blocking_core::io::Fault;
 use futures::task::{Context, Poll};
@@ -17,8 +17,9 @@ pub trait AsyncRead {
     /// Whether it was closed. What is closed isn't read.
     ghost closed: { Self → Type 0 };
 
-    /// A poll that led from the one state to the other may have given these bytes. Where an impl doesn't say, it may be any.
-    ghost reads: { Self → List ℕ → Self → Type 0 } = { λ _ _ _. Unit {0} };
+    /// A poll that led from the one state to the other may have been this one: how many bytes there was room for, and what it answered,
+    /// with the bytes. Where an impl doesn't say, it may be any.
+    ghost reads: { Self → ReaderPoll → Self → Type 0 } = { λ _ _ _. Unit {0} };
 
     /// Reads the next bytes into `buf`, and answers how many they are. None, where the buffer has room for one, means the end. After a
     /// fault of its own, or a refusal where reading couldn't begin, nothing was read, and it may be read again.
@@ -29,7 +30,7 @@ pub trait AsyncRead {
         ensures open { closed self.new → ⊥ }
         ensures count { IfReady result (λ r. IfOk r (λ n. n ≤ length buf.old)) }
         ensures same_length { length buf.new ≡ length buf.old }
-        ensures bytes { reads self.old (moved result buf.new) self.new }
+        ensures bytes { reads self.old (OfRead (length buf.old) (with_bytes result buf.new)) self.new }
         ensures armed { OnPending result (IsArmed cx.new) }
         ensures kept { Keeps cx.old cx.new };
 }
@@ -39,8 +40,9 @@ pub trait AsyncWrite {
     /// Whether it was closed. What is closed isn't written.
     ghost closed: { Self → Type 0 };
 
-    /// A poll that led from the one state to the other may have taken these bytes for writing. Where an impl doesn't say, it may be any.
-    ghost writes: { Self → List ℕ → Self → Type 0 } = { λ _ _ _. Unit {0} };
+    /// A poll that led from the one state to the other may have been this one, of a write with the bytes that it took or of a flush. Where
+    /// an impl doesn't say, it may be any.
+    ghost writes: { Self → WriterPoll → Self → Type 0 } = { λ _ _ _. Unit {0} };
 
     /// Takes the first bytes of `bytes` for writing, and answers how many they are. None, where there is one, means that an earlier write
     /// failed: no more is taken until a call that asks for something else has met that fault; a flush and a close tell it. After a fault,
@@ -51,7 +53,7 @@ pub trait AsyncWrite {
         requires { closed self.old → ⊥ }
         ensures open { closed self.new → ⊥ }
         ensures count { IfReady result (λ r. IfOk r (λ n. n ≤ length bytes.now)) }
-        ensures bytes { writes self.old (moved result bytes.now) self.new }
+        ensures bytes { writes self.old (OfWrite (with_bytes result bytes.now)) self.new }
         ensures armed { OnPending result (IsArmed cx.new) }
         ensures kept { Keeps cx.old cx.new };
 
@@ -60,7 +62,7 @@ pub trait AsyncWrite {
     /// A poll that waits has registered, and is polled again.
     fn poll_flush(&mut self, cx: &mut Context<'_>) -> Poll<Result<(), IoFault>>
         ensures same { closed self.new ↔ closed self.old }
-        ensures bytes { writes self.old [] self.new }
+        ensures bytes { writes self.old (OfFlush result) self.new }
         ensures armed { OnPending result (IsArmed cx.new) }
         ensures kept { Keeps cx.old cx.new };
 

@@ -5,9 +5,8 @@ ghost use Rattle.blocking_core.specs.Items.{new_item, item_next};
 
 use crate::link::{Given, Link, MayFail};
 use blocking_core::job::{ItemAction, ItemAnswer, ItemCore};
-use blocking_core::pipe::{RingStore, Sending};
 use blocking_core::pool::{Carries, Job, JobNo, JobStep};
-use blocking_ends::{AnyPlace, SendEnd};
+use blocking_ends::{AnyPlace, ItemSendEnd, ItemSending};
 use blocking_lock::OwnerWaker;
 use std::marker::Model;
 use std::sync::{Arc, Wait};
@@ -23,7 +22,7 @@ pub struct ItemJob<T: Iterator<Item = I> + Drop, I: Drop, H: Wait + Copy> {
     iterator: Option<T>,
     // The item that the iterator gave, until it is sent.
     hand: Option<I>,
-    end: SendEnd<I, AnyPlace, RingStore, H>,
+    end: ItemSendEnd<I, AnyPlace, H>,
     // That the iterator was given back.
     given: Option<Given<T>>,
     // The waker that was taken out of the owner's seat, and has to be called.
@@ -56,7 +55,7 @@ impl<T: Iterator<Item = I> + Drop, I: Drop, H: Wait + Copy> ItemJob<T, I, H> {
     pub fn new(
         rt: H,
         iterator: T,
-        end: SendEnd<I, AnyPlace, RingStore, H>,
+        end: ItemSendEnd<I, AnyPlace, H>,
         link: Arc<Link<T, MayFail>>,
     ) -> ItemJob<T, I, H>
         requires { (state : T) → T.can_next state }
@@ -115,19 +114,20 @@ impl<T: Iterator<Item = I> + Drop, I: Drop, H: Wait + Copy> ItemJob<T, I, H> {
         let Some(item) = self.hand.take() else {
             unreachable!()
         };
+        // stream: RunAgain, where it was parked
         match self.end.send(me, item) {
-            Sending::Sent(seat) => {
+            ItemSending::Sent(seat) => {
                 let woke = seat.is_some();
                 self.waker = seat.flatten();
                 self.core.answer(ItemAnswer::Sent { woke });
                 JobStep::Again
             }
-            Sending::Parked(back) => {
+            ItemSending::Parked(back, _) => {
                 self.hand = Some(back);
                 self.core.answer(ItemAnswer::Parked);
                 JobStep::Waiting
             }
-            Sending::Shut(_) => {
+            ItemSending::Unsent(_, _) => {
                 self.core.answer(ItemAnswer::Shut);
                 JobStep::Again
             }
@@ -165,6 +165,8 @@ impl<T: Iterator<Item = I> + Drop, I: Drop, H: Wait + Copy> ItemJob<T, I, H> {
         ensures { IsSteppedBy T.next_gives Deliver self.old self.new result }
     {
         if let Some(waker) = self.waker.take() {
+            // stream: CallOwner, where it sat at the ring
+            // meeting: Call
             waker.wake();
         }
         self.core.answer(ItemAnswer::Delivered);
@@ -190,11 +192,13 @@ impl<T: Iterator<Item = I> + Drop, I: Drop, H: Wait + Copy> Drop for ItemJob<T, 
         // The iterator is gone before the owner is told. (a waker that is dropped wakes)
         drop(hand);
         drop(iterator);
+        // meeting: Call
         drop(waker);
         if let ItemAction::Done = core.next() {
             return;
         }
         if let Some(Some(waker)) = link.give_up(&rt) {
+            // meeting: Call
             waker.wake();
         }
     }

@@ -203,6 +203,7 @@ impl<F: CallOn<T, Out: Drop> + Drop, T: Drop, H: Wait + Copy> OpJob<F, T, H> {
         ensures { IsSteppedBy F.may_give Deliver self.old self.new result }
     {
         if let Some(waker) = self.waker.take() {
+            // meeting: Call
             waker.wake();
         }
         self.core.answer(OpAnswer::Delivered);
@@ -231,12 +232,14 @@ impl<F: CallOn<T, Out: Drop> + Drop, T: Drop, H: Wait + Copy> Drop for OpJob<F, 
         drop(operation);
         drop(gave);
         drop(handle);
+        // meeting: Call
         drop(waker);
         drop(place);
         if let OpAction::Done = core.next() {
             return;
         }
         if let Some(Some(waker)) = link.give_up(&rt) {
+            // meeting: Call
             waker.wake();
         }
     }

@@ -252,6 +252,7 @@ impl<T: Read + Drop, H: Wait + Copy> ReadJob<T, H> {
         ensures { IsSteppedBy T.remaining Deliver self.old self.new result }
     {
         if let Some(waker) = self.waker.take() {
+            // meeting: Call
             waker.wake();
         }
         self.core.answer(ReadAnswer::Delivered);
@@ -276,11 +277,13 @@ impl<T: Drop, H: Wait + Copy> Drop for ReadJob<T, H> {
         } = self;
         // The reader is gone before the owner is told. (a waker that is dropped wakes)
         drop(work);
+        // meeting: Call
         drop(waker);
         if let ReadAction::Done = core.next() {
             return;
         }
         if let Some(Some(waker)) = link.give_up(&rt) {
+            // meeting: Call
             waker.wake();
         }
     }

@@ -135,6 +135,7 @@ impl<T: Seek + Drop, H: Wait + Copy> SeekJob<T, H> {
         ensures { IsSteppedBy T.stream_position T.stream_bytes Deliver self.old self.new result }
     {
         if let Some(waker) = self.waker.take() {
+            // meeting: Call
             waker.wake();
         }
         self.core.answer(SeekAnswer::Delivered);
@@ -159,11 +160,13 @@ impl<T: Drop, H: Wait + Copy> Drop for SeekJob<T, H> {
         } = self;
         // The handle is gone before the owner is told. (a waker that is dropped wakes)
         drop(handle);
+        // meeting: Call
         drop(waker);
         if let SeekAction::Done = core.next() {
             return;
         }
         if let Some(Some(waker)) = link.give_up(&rt) {
+            // meeting: Call
             waker.wake();
         }
     }

@@ -244,6 +244,7 @@ impl<T: Write + Drop, H: Wait + Copy> WriteJob<T, H> {
         ensures { IsSteppedBy T.contents Deliver self.old self.new result }
     {
         if let Some(waker) = self.waker.take() {
+            // meeting: Call
             waker.wake();
         }
         self.core.answer(WriteAnswer::Delivered);
@@ -268,11 +269,13 @@ impl<T: Drop, H: Wait + Copy> Drop for WriteJob<T, H> {
         } = self;
         // The writer is gone before the owner is told. (a waker that is dropped wakes)
         drop(work);
+        // meeting: Call
         drop(waker);
         if let WriteAction::Done = core.next() {
             return;
         }
         if let Some(Some(waker)) = link.give_up(&rt) {
+            // meeting: Call
             waker.wake();
         }
     }

@@ -12,6 +12,7 @@ use Rattle.blocking_laws.specs.OwnerWakes.{NoLostOwnerWake}
 use Rattle.blocking_laws.specs.Served.{IsServed}
 use Rattle.blocking_laws.specs.Staffed.{IsStaffedAsSeen}
 use Rattle.blocking_laws.specs.Steps.{StepLaw}
+use Rattle.blocking_laws.specs.Copies.{CopyLaw}
 use Rattle.blocking_laws.specs.Legal.{Legal, PoolLaw, LastFollows, HoldsNow, IsLegalThroughout}
 use Rattle.blocking_laws.specs.declared.event.Act.{Act}
 use Rattle.blocking_laws.specs.declared.event.Act.TheVariants.{Accepted}
@@ -83,6 +84,7 @@ before setting plan past now legal = record {
   owner_wakes = legal.owner_wakes.1;
   served = legal.served.1;
   staffed = legal.staffed.1;
+  copies = legal.copies.1;
 }
 
 -- ---- both forms
@@ -97,6 +99,7 @@ now_of setting plan [] legal = record {
   owner_wakes = legal.owner_wakes;
   served = legal.served;
   staffed = legal.staffed;
+  copies = tt;
 }
 now_of setting plan (now ∷ past) legal = record {
   step = legal.steps.0;
@@ -107,6 +110,7 @@ now_of setting plan (now ∷ past) legal = record {
   owner_wakes = legal.owner_wakes.0;
   served = legal.served.0;
   staffed = legal.staffed.0;
+  copies = legal.copies.0;
 }
 
 at_beginning : (setting : ℕ) (plan : List Bool) (later beginning : List Moment) → Legal setting plan (later ++ beginning) → HoldsNow setting plan beginning
@@ -138,6 +142,7 @@ whole setting plan past laws = record {
   owner_wakes = at_each NoLostOwnerWake past (λ later beginning split. (laws later beginning split).owner_wakes);
   served = at_each IsServed past (λ later beginning split. (laws later beginning split).served);
   staffed = at_each IsStaffedAsSeen past (λ later beginning split. (laws later beginning split).staffed);
+  copies = each_follows CopyLaw past (λ later beginning split. (laws later beginning split).copies);
 }
 
 -- ---- what the law of one owner or of one task refuses

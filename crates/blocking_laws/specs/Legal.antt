@@ -9,6 +9,7 @@ use Rattle.blocking_laws.specs.Answers.{AnswerLaw}
 use Rattle.blocking_laws.specs.TaskLaws.{TaskLaws}
 use Rattle.blocking_laws.specs.Wakes.{NoLostWake}
 use Rattle.blocking_laws.specs.Steps.{StepLaw}
+use Rattle.blocking_laws.specs.Copies.{CopyLaw}
 use Rattle.blocking_laws.specs.OwnerLaws.{OwnerLaws}
 use Rattle.blocking_laws.specs.OwnerWakes.{NoLostOwnerWake}
 use Rattle.blocking_laws.specs.Served.{IsServed}
@@ -24,9 +25,9 @@ pub record PoolLaw (setting : ℕ) (plan : List Bool) (past : List Moment) (now 
   pub order : InOrder (now ∷ past)
 
 -- A past is legal, by the setting's number and the plan of the starts: each step has the event that it may have, the
--- pool keeps its law, each owner with its jobs keeps theirs, each task with its job keeps theirs, and at every beginning no
--- wake is lost, of tasks or of owners, queued jobs are served, and the workers are accounted for. Only the pool's law and those of
--- every beginning see more than one holder.
+-- pool keeps its law, each owner with its jobs keeps theirs, each task with its job keeps theirs, copiers keep theirs, and at every
+-- beginning no wake is lost, of tasks or of owners, queued jobs are served, and the workers are accounted for. Only the pool's law and those of
+-- every beginning see more than one holder, and that of copies two owners.
 pub record Legal (setting : ℕ) (plan : List Bool) (past : List Moment) : Type 0 where
   pub steps : EachMayFollow StepLaw past
   pub pool : EachMayFollow (PoolLaw setting plan) past
@@ -36,6 +37,7 @@ pub record Legal (setting : ℕ) (plan : List Bool) (past : List Moment) : Type 
   pub owner_wakes : AtEveryBeginning NoLostOwnerWake past
   pub served : AtEveryBeginning IsServed past
   pub staffed : AtEveryBeginning IsStaffedAsSeen past
+  pub copies : EachMayFollow CopyLaw past
 
 -- The last moment rightly follows those before it.
 abbrev pub LastFollows : (List Moment → Moment → Type 0) → List Moment → Type 0
@@ -52,6 +54,7 @@ pub record HoldsNow (setting : ℕ) (plan : List Bool) (past : List Moment) : Ty
   pub owner_wakes : NoLostOwnerWake past
   pub served : IsServed past
   pub staffed : IsStaffedAsSeen past
+  pub copies : LastFollows CopyLaw past
 
 -- The same as `Legal`, said of every beginning of the trace: however the past is split into a beginning and what came later,
 -- the laws hold at that beginning.

@@ -20,6 +20,8 @@ pub mod OwnerSeats
 pub mod Ends
 pub mod TaskLaws
 pub mod Wakes
+pub mod Lent
+pub mod Copies
 pub mod Steps
 pub mod OwnerLaws
 pub mod OwnerWakes
@@ -29,6 +31,7 @@ pub mod Legal
 pub mod Solo
 pub mod Traces
 pub mod OwnerTraces
+pub mod CopyTraces
 pub mod WriteTraces
 pub mod StreamTraces
 pub mod SeekTraces

@@ -6,10 +6,12 @@ use Rattle.blocking_laws.specs.Jobs.{tasks, holder, as_owner}
 use Rattle.blocking_laws.specs.Counts.{starts, arrivals}
 use Rattle.blocking_laws.specs.Turns.{Turn, GoesOn, IsWaiting, MustGiveUp, HasGivenUp, turn, hand}
 use Rattle.blocking_laws.specs.JobTable.{Kind, Calling, JobAction, next_of_job, is_answer, is_asking, is_over}
-use Rattle.blocking_laws.specs.Sessions.{kind_of_job, may_ask, is_dropped, under_way, is_poll_over, rests}
+use Rattle.blocking_laws.specs.Sessions.{kind_of_job, may_ask, is_dropped, under_way, is_poll_over, rests, is_closed, was_asked_inner}
+use Rattle.blocking_laws.specs.Lent.{Copier, copiers, copier_in, has_owner, links}
+use Rattle.blocking_laws.specs.Copies.{CopierAction, AskReader, AskWriter, Tells, next_of_copier}
 use Rattle.blocking_laws.specs.TaskLaws.{is_gone, was_cancelled, is_let_go}
 use Rattle.blocking_laws.specs.declared.event.Act.{Act}
-use Rattle.blocking_laws.specs.declared.event.Act.TheVariants.{Made, Asked, Accepted, Refused, JobWoken, JobCancelled, LimitSet, Swept, Waits, TaskGot, TaskGotNone, TaskCancelled, TaskDetached, HolderDropped, Arrived, Took, TookDropped, TookNone, Stays, Stopped, Ended, HandedOut, Answered, NoAction}
+use Rattle.blocking_laws.specs.declared.event.Act.TheVariants.{Made, Asked, Accepted, Refused, JobWoken, JobCancelled, LimitSet, Swept, Waits, TaskGot, TaskGotNone, TaskCancelled, TaskDetached, HolderDropped, Arrived, Took, TookDropped, TookNone, Stays, Stopped, Ended, HandedOut, Answered, Linked, NoAction}
 use Rattle.blocking_laws.specs.declared.event.Moment.{Moment}
 use Rattle.blocking_laws.specs.declared.event.Party.{Party}
 use Rattle.blocking_laws.specs.declared.event.Party.TheVariants.{Owner, Task, Worker, Pool}
@@ -17,7 +19,7 @@ use Rattle.blocking_laws.specs.declared.event.WaitEnd.{WaitEnd}
 use Rattle.blocking_laws.specs.declared.event.WaitEnd.TheVariants.{Woken, TimedOut}
 use Rattle.blocking_laws.specs.declared.step.Answer.{Answer}
 use Rattle.blocking_laws.specs.declared.step.Step.{Step}
-use Rattle.blocking_laws.specs.declared.step.Step.TheVariants.{New, Ask, Own, DropOwner, Spawn, OfTask, Arrive, Take, Job, Io, End, Wait, Late, SetLimit, Sweep, Stray, Strike}
+use Rattle.blocking_laws.specs.declared.step.Step.TheVariants.{New, Ask, Own, DropOwner, Spawn, OfTask, Arrive, Take, Job, Io, End, Wait, Late, SetLimit, Sweep, Stray, Strike, Link, Copy}
 use Rattle.blocking_laws.specs.declared.step.TaskCall.{TaskCall}
 use Rattle.blocking_laws.specs.declared.step.TaskCall.TheVariants.{Poll, Cancel, Detach, Drop}
 
@@ -111,15 +113,52 @@ may_cancel (Some (Owner h)) past = is_dropped (acts_of_owner h (events past))
 may_cancel (Some (Task k)) past = is_let_go (acts_of_task k (events past))
 may_cancel _ past = false
 
+-- ---- copiers
+
+-- whether an owner may be lent to a copier: it is there with its handle, which wasn't asked for for good, no poll of it is under way, and it
+-- belongs to no copier that has told no end
+abbrev pub may_lend : List Moment → ℕ → Bool
+may_lend past h =
+    rests (acts_of_owner h (events past)) && not (is_closed (acts_of_owner h (events past)))
+    && not (was_asked_inner (acts_of_owner h (events past))) && not (has_owner h (copiers past))
+
+-- whether a copier is there that has told no end, and no poll of its owners is under way
+abbrev pub may_copy : Option Copier → List Moment → Bool
+may_copy None past = false
+may_copy (Some c) past =
+    is_poll_over (under_way (acts_of_owner c.reader (events past))) && is_poll_over (under_way (acts_of_owner c.writer (events past)))
+
+-- who takes a copier's step: the owner that it asks, or the pool where it tells its end
+abbrev pub asked_by : CopierAction → Copier → Party
+asked_by (AskReader call) c = Owner c.reader
+asked_by (AskWriter call) c = Owner c.writer
+asked_by (Tells act) c = Pool
+
+-- (of a copier that may not be there)
+abbrev pub copier_party : Option Copier → List Moment → Party
+copier_party None past = Pool
+copier_party (Some c) past = asked_by (next_of_copier c past) c
+
+-- what is seen of what a copier does
+abbrev pub act_of_copier : CopierAction → Act
+act_of_copier (AskReader call) = Asked call
+act_of_copier (AskWriter call) = Asked call
+act_of_copier (Tells act) = act
+
+-- what is seen of a copier's step is what it does next
+abbrev pub IsOfCopier : Option Copier → List Moment → Act → Type 0
+IsOfCopier None past act = ⊥
+IsOfCopier (Some c) past act = act ≡ act_of_copier (next_of_copier c past)
+
 -- ---- steps
 
 -- Whether a step names a party that is there and has an action of that kind. An owner may always be made; it is asked where it may be, and
--- dropped where it rests; and its poll goes on while it is under way.
+-- dropped where it rests, if it isn't lent to a copier; and its poll goes on while it is under way.
 abbrev pub has_action : List Moment → Step → Bool
 has_action past (New capacity) = true
-has_action past (Ask h call) = may_ask (acts_of_owner h (events past)) call
+has_action past (Ask h call) = may_ask (acts_of_owner h (events past)) call && not (has_owner h (copiers past))
 has_action past (Own h) = not (is_poll_over (under_way (acts_of_owner h (events past))))
-has_action past (DropOwner h) = rests (acts_of_owner h (events past))
+has_action past (DropOwner h) = rests (acts_of_owner h (events past)) && not (has_owner h (copiers past))
 has_action past Spawn = true
 has_action past (OfTask k c) = nat_lt k (tasks past) && may_call (acts_of_task k (events past)) c
 has_action past Arrive = nat_lt (arrivals past) (starts past)
@@ -133,6 +172,8 @@ has_action past (SetLimit n) = nat_lt 0 n
 has_action past Sweep = true
 has_action past (Stray s) = is_some (holder past s)
 has_action past (Strike s) = may_cancel (holder past s) past
+has_action past (Link a b n) = may_lend past a && may_lend past b && not (a == b) && nat_lt 0 n
+has_action past (Copy k) = may_copy (copier_in k (copiers past)) past
 
 -- the party that a step names
 abbrev pub named : Step → Party
@@ -148,10 +189,11 @@ named (Wait w) = Worker w
 named (Late w) = Worker w
 named step = Pool
 
--- who takes a step: the party that it names, and the next owner or worker where one is made or arrives
+-- who takes a step: the party that it names, the next owner or worker where one is made or arrives, and the owner whom a copier asks
 abbrev pub party : List Moment → Step → Party
 party past (New capacity) = Owner (owners past)
 party past Arrive = Worker (1 + arrivals past)
+party past (Copy k) = copier_party (copier_in k (copiers past)) past
 party past step = named step
 
 -- the job that a take gives
@@ -251,6 +293,8 @@ Fits past (SetLimit n) act = act ≡ LimitSet n
 Fits past Sweep act = IsSweep act
 Fits past (Stray s) act = IsWakeOf s act
 Fits past (Strike s) act = IsCancelOf s act
+Fits past (Link a b n) act = act ≡ Linked (links past)
+Fits past (Copy k) act = IsOfCopier (copier_in k (copiers past)) past act
 
 -- where a step has an action something of its kind is done, and elsewhere nothing
 abbrev pub Happens : Bool → List Moment → Step → Act → Type 0

@@ -11,7 +11,9 @@ use Rattle.blocking_laws.specs.Hex.{hex_text}
 use Rattle.blocking_laws.specs.declared.step.Answer.{Answer}
 use Rattle.blocking_laws.specs.declared.step.Answer.TheVariants as answer
 use Rattle.blocking_laws.specs.declared.event.Act.{Act}
-use Rattle.blocking_laws.specs.declared.event.Act.TheVariants.{Made, Asked, OwnerClosed, Got, GotItem, GotEnd, Filled, FillShut, Back, ResultGot, Replied, RoomFree, RoomShut, Put, Lost, Peeked, Drained, Taken as TakenOut, JobClosed, ResultPut, Accepted, Refused, JobWoken, JobCancelled, LimitSet, Swept, Waits, TaskGot, TaskGotNone, TaskCancelled, TaskDetached, HolderDropped, Arrived, Took, TookDropped, TookNone, Stays, Stopped, Ended, HandedOut, Answered, JobParked, Finished, GaveUp, HolderWoken, NoAction}
+use Rattle.blocking_laws.specs.declared.event.Act.TheVariants.{Made, Asked, OwnerClosed, Got, GotItem, GotEnd, Filled, FillShut, Back, ResultGot, Replied, RoomFree, RoomShut, Put, Lost, Peeked, Drained, Taken as TakenOut, JobClosed, ResultPut, Accepted, Refused, JobWoken, JobCancelled, LimitSet, Swept, Waits, TaskGot, TaskGotNone, TaskCancelled, TaskDetached, HolderDropped, Arrived, Took, TookDropped, TookNone, Stays, Stopped, Ended, HandedOut, Answered, JobParked, Finished, GaveUp, HolderWoken, Linked, Copied, CopyFailed, NoAction}
+use Rattle.blocking_laws.specs.declared.event.CopySide.{CopySide}
+use Rattle.blocking_laws.specs.declared.event.CopySide.TheVariants as side
 use Rattle.blocking_laws.specs.declared.event.Event.{Event}
 use Rattle.blocking_laws.specs.declared.event.HolderWaker.{HolderWaker}
 use Rattle.blocking_laws.specs.declared.event.HolderWaker.TheVariants.{Taken, Absent}
@@ -37,6 +39,11 @@ standing_text Running = codes "running"
 standing_text Parked = codes "parked"
 standing_text Done = codes "done"
 standing_text Dropped = codes "dropped"
+
+-- on which side a copier failed
+abbrev pub side_text : CopySide → List ℕ
+side_text side.Reading = codes "reading"
+side_text side.Writing = codes "writing"
 
 -- a wake stands at the end of a text
 abbrev pub wake_text : HolderWaker → List ℕ
@@ -116,6 +123,9 @@ act_text (ResultPut waker) = codes "result" ++ wake_text waker
 act_text (Finished waker) = codes "finished" ++ wake_text waker
 act_text (GaveUp waker) = codes "gave up" ++ wake_text waker
 act_text HolderWoken = codes "delivered owner"
+act_text (Linked k) = codes "linked " ++ decimal k
+act_text (Copied n) = codes "copied " ++ decimal n
+act_text (CopyFailed at) = codes "copy failed " ++ side_text at
 act_text NoAction = codes "nothing"
 
 -- the numbers of so many starts, numbered on from the first

@@ -64,6 +64,15 @@ impl HolderWaker {
     }
 }
 
+/// On which side a copier failed.
+#[derive(Clone, Copy, Debug, PartialEq, Eq)]
+pub enum CopySide {
+    /// Its reader failed, or reading couldn't begin.
+    Reading,
+    /// Its writer failed, at a write or a flush, or writing couldn't begin; or a write took none of the bytes.
+    Writing,
+}
+
 /// What a poll of an owner replies.
 #[derive(Clone, Copy, Debug, PartialEq, Eq)]
 pub enum Reply {
@@ -184,6 +193,13 @@ pub enum Act {
     GaveUp(HolderWaker),
     /// The waker that the job took out of its seat was called.
     HolderWoken,
+    // of a copier
+    /// The copier of this number was made.
+    Linked(usize),
+    /// All that the copier read was written and flushed: so many bytes, or the greatest number of 64 bits where there were more.
+    Copied(u64),
+    /// The copier failed on this side.
+    CopyFailed(CopySide),
     // of nobody
     /// Nothing was done.
     NoAction,
@@ -244,6 +260,9 @@ impl Act {
             Act::Finished(waker) => Act::Finished(*waker),
             Act::GaveUp(waker) => Act::GaveUp(*waker),
             Act::HolderWoken => Act::HolderWoken,
+            Act::Linked(copier) => Act::Linked(*copier),
+            Act::Copied(count) => Act::Copied(*count),
+            Act::CopyFailed(side) => Act::CopyFailed(*side),
             Act::NoAction => Act::NoAction,
         })
     }

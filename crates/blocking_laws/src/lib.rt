@@ -11,5 +11,5 @@ pub mod laws;
 pub mod step;
 mod text;
 
-pub use event::{Act, Event, HolderWaker, Moment, Party, Reply, WaitEnd};
+pub use event::{Act, CopySide, Event, HolderWaker, Moment, Party, Reply, WaitEnd};
 pub use step::{Answer, HandleCall, Step, TaskCall};

@@ -8,7 +8,8 @@ use std::alloc::AllocError;
 /// One step. It may name anyone and ask for anything: a step that has no action then changes nothing.
 ///
 /// Owners are numbered from 0 in the order in which they were made, tasks from 0 in the order in which their calls were
-/// accepted, workers from 1 in the order in which they arrived, and jobs by their serials, from 1.
+/// accepted, workers from 1 in the order in which they arrived, copiers from 0 in the order in which they were made, and jobs by their
+/// serials, from 1.
 #[derive(Debug, Drop)]
 pub enum Step {
     /// An owner is made, with an idle handle. Its sessions' pipes hold so many bytes or items; 0 stands for the defaults.
@@ -45,6 +46,11 @@ pub enum Step {
     Stray(u64),
     /// The job of this serial, from 1, is cancelled in the pool: its task was dropped or cancelled.
     Strike(u64),
+    /// A copier is made, which reads the first of these owners and writes the second, by their numbers from 0, and reads at most so many
+    /// bytes at once.
+    Link(usize, usize, usize),
+    /// The copier of this number, from 0, asks one of its owners for what it does next, or tells how it ended.
+    Copy(usize),
 }
 
 impl Step {
@@ -70,6 +76,8 @@ impl Step {
             Step::Sweep => Step::Sweep,
             Step::Stray(serial) => Step::Stray(*serial),
             Step::Strike(serial) => Step::Strike(*serial),
+            Step::Link(reader, writer, piece) => Step::Link(*reader, *writer, *piece),
+            Step::Copy(copier) => Step::Copy(*copier),
         })
     }
 }

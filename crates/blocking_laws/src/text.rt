@@ -1,9 +1,9 @@
 //! The texts of events.
 ghost use Rattle.std.specs.Prelude.{◌≡◌, Some};
 ghost use Rattle.std.specs.Fmt.{WritesOnOk};
-ghost use Rattle.blocking_laws.specs.Texts.{act_text, answer_text, event_text, note_text, reply_text, starts_text, wake_text, refusal_text, woke_text, standing_text};
+ghost use Rattle.blocking_laws.specs.Texts.{act_text, answer_text, event_text, note_text, reply_text, starts_text, wake_text, refusal_text, woke_text, standing_text, side_text};
 
-use crate::event::{Act, Event, HolderWaker, Reply};
+use crate::event::{Act, CopySide, Event, HolderWaker, Reply};
 use crate::step::Answer;
 use blocking_core::io::Fault;
 use blocking_core::pool::{Refusal, Standing, Woke};
@@ -85,6 +85,9 @@ impl fmt::Display for Act {
             Act::Finished(waker) => write!(f, "finished{}", wake_word(*waker)),
             Act::GaveUp(waker) => write!(f, "gave up{}", wake_word(*waker)),
             Act::HolderWoken => f.write_str("delivered owner"),
+            Act::Linked(copier) => write!(f, "linked {copier}"),
+            Act::Copied(count) => write!(f, "copied {count}"),
+            Act::CopyFailed(side) => write!(f, "copy failed {}", side_word(*side)),
             Act::NoAction => f.write_str("nothing"),
         }
     }
@@ -167,6 +170,15 @@ fn standing_word(standing: Standing) -> &'static str
         Standing::Parked => "parked",
         Standing::Done => "done",
         Standing::Dropped => "dropped",
+    }
+}
+
+fn side_word(side: CopySide) -> &'static str
+    ensures { result.now ≡ side_text side }
+{
+    match side {
+        CopySide::Reading => "reading",
+        CopySide::Writing => "writing",
     }
 }
 

@@ -165,11 +165,13 @@ impl<A: Left<Value: Drop>> LockedSlot<A> {
         requires { A.may_be value }
         ensures { IfSome result.back (λ back. back ≡ value) }
     {
+        // meeting: Leave; or GiveUp, where it was abandoned; nothing where it is full or was given up
         enter(&self.slot, rt).put(value)
     }
 
     /// Gives the slot up: no value will come. Answers the waker of an owner who waits.
     pub fn give_up<R: Wait>(&self, rt: &R) -> Option<OwnerWaker> {
+        // meeting: GiveUp
         enter(&self.slot, rt).give_up()
     }
 
@@ -177,6 +179,7 @@ impl<A: Left<Value: Drop>> LockedSlot<A> {
     pub fn look<R: Wait>(&self, rt: &R) -> Looked<A::Value, OwnerWaker>
         ensures { IfLookedAt result A.may_be }
     {
+        // meeting: Look
         enter(&self.slot, rt).look()
     }
 
@@ -188,11 +191,13 @@ impl<A: Left<Value: Drop>> LockedSlot<A> {
     ) -> (Slotted<A::Value>, Option<OwnerWaker>)
         ensures { IfPolled result.0 A.may_be }
     {
+        // meeting: Ask
         enter(&self.slot, rt).poll(waker)
     }
 
     /// The owner leaves the slot: no value is put there any more. What was there comes with it.
     pub fn abandon<R: Wait>(&self, rt: &R) -> Found<A> {
+        // meeting: Abandon
         enter(&self.slot, rt).abandon()
     }
 
@@ -228,6 +233,7 @@ impl<A: Left<Value: Drop>> LockedSlot<A> {
             Looked::Value(value) => return Ok(value),
             Looked::Seat(seat) => seat.flatten(),
         };
+        // meeting: Register
         let _pending: Poll<()> = cx.register(source, &mut waker);
         self.wait(&rt, waker)
     }

@@ -48,7 +48,7 @@ pub use Rattle.blocking_lanes.specs.Tasks.{Task, new_task, may_be, has_let_go, t
 pub use Rattle.blocking_lanes.specs.Ties.{is_gone_as, CancelAs, TaskAs, AllLaws, TasksHold}
 -- of the parts
 pub use Rattle.blocking_parts.specs.Carried.{bytes_of_answer, bytes_of_call, bytes_of, bytes_to_get, front_at, front_for, bytes_to_find, bytes_to_come, is_busy, polls_in}
-pub use Rattle.blocking_parts.specs.Moves.{Move, Idles, Makes, Asks, Owns, Lends, Delivers, IsDropped, Begins, Calls, Works, IsAnswered, Parks, Passes, IsWoken, IsStruck, step_by, step_of, task_call, call_of, rows_after_add, tasks_after_add, lent_step, rows_after, tasks_after, owners_after, may_call_in, rests_in, may_ask_in, may_own, may_own_in, has_action_in, is_pass, IsDue, May, CrewMoves, Moves, Steps}
+pub use Rattle.blocking_parts.specs.Moves.{Move, Idles, Makes, Asks, Owns, Lends, Delivers, IsDropped, Begins, Calls, Works, IsAnswered, Parks, Passes, IsWoken, IsStruck, Notes, step_by, step_of, task_call, call_of, rows_after_add, tasks_after_add, lent_step, rows_after, tasks_after, owners_after, may_call_in, rests_in, may_ask_in, may_own, may_own_in, has_action_in, is_pass, IsDue, AsksBy, IsNote, May, CrewMoves, is_own_step, Moves, CopierMoves, Steps}
 pub use Rattle.blocking_parts.specs.Parts.{Parts, row_of, owner_by, owner_of, InHand, job_with, job_in, job_at, places_of, next_in, next_at, done_by, done_in, task_let_go, owner_let_go, let_go_of, let_go_by}
 pub use Rattle.blocking_parts.specs.Rows.{party_of, owner_in, kind_of, call_row, session_row, call_action, action_of, is_first, is_at_first, call_step_by, call_step, call_after, session_step, job_after, Done, call_done, session_seen, session_done, done, IsDone, core_after_answer, IsActed, IsActedFor}
-pub use Rattle.blocking_parts.specs.Ties.{CoreAs, PlaceAs, RowAs, GaveAs, HasRow, Rowed, Marked, is_waiting_in, is_left, seated_in, is_number, IsMet, Crossed, moment, Tied, IsLawful}
+pub use Rattle.blocking_parts.specs.Ties.{CoreAs, PlaceAs, RowAs, GaveAs, HasRow, Rowed, Marked, is_waiting_in, is_left, seated_in, is_number, IsMet, Crossed, moment, Tied, KeepsLaws, IsFree, IsLawful}

@@ -2,7 +2,7 @@
 -- owner.
 use Rattle.std.specs.Prelude.{◌≡◌, ℕ, Bool, true, false, ◌-◌, List, [], ◌∷◌, ◌++◌, length, slice_get, slice_set, Option, Some, None, is_some, Result, Ok, Err}
 use Rattle.blocking_crew.specs.Moves as crew
-use Rattle.blocking_crew.specs.Moves.{next_start, nothing}
+use Rattle.blocking_crew.specs.Moves.{next_start, nothing, NeverAsked}
 use Rattle.blocking_crew.specs.declared.hand.Stage.TheVariants as stage
 use Rattle.blocking_lanes.specs.OwnerSteps as owners
 use Rattle.blocking_lanes.specs.Owners.{Owner, Did, did, may_ask, new_job_of, new_owner, next_of, note_at, number_of, owner_after_delivery, rests}
@@ -11,15 +11,17 @@ use Rattle.blocking_lanes.specs.declared.owner.OwnerNext.TheVariants as next
 use Rattle.blocking_lanes.specs.Steps as tasks
 use Rattle.blocking_lanes.specs.Tasks.{Task, new_task, may_be, task_act}
 use Rattle.blocking_laws.specs.Steps.{named, is_answered_action, is_turn_end}
-use Rattle.blocking_laws.specs.declared.event.Act.TheVariants.{Made, Asked, HolderDropped, Answered}
+use Rattle.blocking_laws.specs.declared.event.Act.{Act}
+use Rattle.blocking_laws.specs.declared.event.Act.TheVariants.{Made, Asked, HolderDropped, Answered, Linked, Copied, CopyFailed, NoAction}
 use Rattle.blocking_laws.specs.declared.event.Event.{Event}
+use Rattle.blocking_laws.specs.declared.event.Party.{Party}
 use Rattle.blocking_laws.specs.declared.event.Party.TheVariants.{Owner as ByOwner, Task as ByTask, Pool}
 use Rattle.blocking_laws.specs.declared.event.WaitEnd.{WaitEnd}
 use Rattle.blocking_laws.specs.declared.event.WaitEnd.TheVariants.{Woken, TimedOut}
 use Rattle.blocking_laws.specs.declared.step.Answer.{Answer}
 use Rattle.blocking_laws.specs.declared.step.HandleCall.{HandleCall}
 use Rattle.blocking_laws.specs.declared.step.Step.{Step}
-use Rattle.blocking_laws.specs.declared.step.Step.TheVariants.{New, Ask, Own, DropOwner, Spawn, OfTask, Arrive, Take, Job, Io, End, Wait, Late, SetLimit, Sweep, Stray, Strike}
+use Rattle.blocking_laws.specs.declared.step.Step.TheVariants.{New, Ask, Own, DropOwner, Spawn, OfTask, Arrive, Take, Job, Io, End, Wait, Late, SetLimit, Sweep, Stray, Strike, Link, Copy}
 use Rattle.blocking_laws.specs.declared.step.TaskCall.{TaskCall}
 use Rattle.blocking_laws.specs.declared.step.TaskCall.TheVariants.{Poll, Cancel, Detach, Drop}
 use Rattle.blocking_pool.specs.Jobs.{JobNumber}
@@ -34,8 +36,8 @@ pub data Move : Type 0 where
   Idles : Step → Move
   -- an owner is made, whose pipes hold so many bytes
   Makes : ℕ → Move
-  -- a poll of owner h begins, and asks for this
-  Asks : ℕ → HandleCall → Owner → Move
+  -- by this step a poll of owner h begins, and asks for this
+  Asks : Step → ℕ → HandleCall → Owner → Move
   -- the poll of owner h does this, which asks no pool
   Owns : ℕ → Owner → Did → Move
   -- the poll of owner h begins a session, by what the pool answers
@@ -60,6 +62,8 @@ pub data Move : Type 0 where
   IsWoken : ℕ → Row → Move
   -- the job s, of this row, is cancelled in the pool
   IsStruck : ℕ → Row → Move
+  -- by this step this is told of this party, and nothing becomes of the parts
+  Notes : Step → Party → Act → Move
 
 -- ---- which step it is
 
@@ -81,7 +85,7 @@ step_by _ = Sweep
 abbrev pub step_of : Move → Step
 step_of (Idles step) = step
 step_of (Makes capacity) = New capacity
-step_of (Asks h call owner) = Ask h call
+step_of (Asks step h call owner) = step
 step_of (Owns h owner done) = Own h
 step_of (Lends h owner added) = Own h
 step_of (Delivers h owner number) = Own h
@@ -94,6 +98,7 @@ step_of (Parks v job) = End v
 step_of (Passes call) = step_by call
 step_of (IsWoken s row) = Stray s
 step_of (IsStruck s row) = Strike s
+step_of (Notes step who act) = step
 
 -- ---- the call of the crew
 
@@ -108,7 +113,7 @@ task_call k Drop task = crew.LetGo (ByTask k) (task_act Drop task) (Some task.nu
 abbrev pub call_of : Parts → Move → crew.Call
 call_of w (Idles step) = crew.Sweep
 call_of w (Makes capacity) = crew.Tell (ByOwner (length w.owners)) (Made (length w.owners) capacity)
-call_of w (Asks h call owner) = crew.Tell (ByOwner h) (Asked call)
+call_of w (Asks step h call owner) = crew.Tell (ByOwner h) (Asked call)
 call_of w (Owns h owner done) = crew.Tell (ByOwner h) done.act
 call_of w (Lends h owner added) = crew.Add (ByOwner h) added
 call_of w (Delivers h owner number) = crew.Wake (ByOwner h) number
@@ -121,6 +126,7 @@ call_of w (Parks v job) = crew.Park v (record { is_marked = let_go_of w job.row.
 call_of w (Passes call) = call
 call_of w (IsWoken s row) = crew.Wake Pool row.number
 call_of w (IsStruck s row) = crew.Cancel Pool row.number
+call_of w (Notes step who act) = crew.Tell who act
 
 -- ---- what it leaves
 
@@ -157,7 +163,7 @@ tasks_after w move = w.tasks
 -- the owners after a move
 abbrev pub owners_after : Parts → Move → List Owner
 owners_after w (Makes capacity) = w.owners ++ new_owner capacity ∷ []
-owners_after w (Asks h call owner) = slice_set w.owners h (owners.owner_after (owners.IsAsked call) owner)
+owners_after w (Asks step h call owner) = slice_set w.owners h (owners.owner_after (owners.IsAsked call) owner)
 owners_after w (Owns h owner done) = slice_set w.owners h done.owner
 owners_after w (Lends h owner added) = slice_set w.owners h (owners.owner_after (lent_step added) owner)
 owners_after w (Delivers h owner number) = slice_set w.owners h (owner_after_delivery owner)
@@ -194,7 +200,7 @@ abbrev pub may_own_in : Option Owner → Bool
 may_own_in None = false
 may_own_in (Some owner) = may_own (next_of owner) (did owner)
 
--- Whether a step has an action.
+-- Whether a step has an action, where no owner is lent to a copier. Those of copiers have none here.
 abbrev pub has_action_in : Parts → Step → Bool
 has_action_in w (New capacity) = true
 has_action_in w (Ask h call) = may_ask_in (slice_get w.owners h) call
@@ -213,6 +219,8 @@ has_action_in w (SetLimit n) = crew.has_action w.crew (crew.SetLimit n)
 has_action_in w Sweep = true
 has_action_in w (Stray s) = is_some (row_of w.rows s)
 has_action_in w (Strike s) = let_go_by w (row_of w.rows s)
+has_action_in w (Link a b n) = false
+has_action_in w (Copy k) = false
 
 -- ---- which moves there may be
 
@@ -235,11 +243,25 @@ IsDue w call = Unit {0}
 abbrev pub IsThere : Parts → ℕ → Owner → Type 0
 IsThere w h owner = slice_get w.owners h ≡ Some owner
 
+-- by this step owner h is asked for this: by its own, or by that of a copier
+abbrev pub AsksBy : Step → ℕ → HandleCall → Type 0
+AsksBy (Ask g other) h call = (g ≡ h) × (other ≡ call)
+AsksBy (Copy k) h call = Unit {0}
+AsksBy step h call = ⊥
+
+-- what may be told of a party that is nothing to the parts: nothing, of whomever; and of the pool what a copier does
+abbrev pub IsNote : Party → Act → Type 0
+IsNote who NoAction = Unit {0}
+IsNote Pool (Linked k) = Unit {0}
+IsNote Pool (Copied n) = Unit {0}
+IsNote Pool (CopyFailed side) = Unit {0}
+IsNote who act = ⊥
+
 -- Whether a move may be made: whom it names is there, and may do so.
 abbrev pub May : Parts → Move → Type 0
 May w (Idles step) = has_action_in w step ≡ false
 May w (Makes capacity) = Unit {0}
-May w (Asks h call owner) = IsThere w h owner × (may_ask owner call ≡ true)
+May w (Asks step h call owner) = IsThere w h owner × ((may_ask owner call ≡ true) × AsksBy step h call)
 May w (Owns h owner done) = IsThere w h owner × (did owner ≡ Some done)
 May w (Lends h owner added) = IsThere w h owner × (next_of owner ≡ next.Begins)
 May w (Delivers h owner number) = IsThere w h owner × (note_at owner.stage ≡ Some number)
@@ -252,21 +274,44 @@ May w (Parks v job) = (job_at w v ≡ Some job) × (job.held.stage ≡ stage.Wai
 May w (Passes call) = (is_pass call ≡ true) × IsDue w call
 May w (IsWoken s row) = row_of w.rows s ≡ Some row
 May w (IsStruck s row) = (row_of w.rows s ≡ Some row) × (let_go_of w row.core ≡ true)
+May w (Notes step who act) = IsNote who act
 
 -- what the crew does, and is seen to do
 abbrev pub CrewMoves : (ℕ → Bool → Type 0) → Move → Parts → Event → Parts → Type 0
 CrewMoves may_answer (Idles step) w e new = (e ≡ nothing (named step) (next_start w.crew)) × (new.crew ≡ w.crew)
 CrewMoves may_answer move w e new = crew.Moves may_answer (call_of w move) w.crew e new.crew
 
+-- whether a move is a step of its own: not one that a copier takes, nor one that only tells something
+abbrev pub is_own_step : Move → Bool
+is_own_step (Asks (Copy k) h call owner) = false
+is_own_step (Notes step who act) = false
+is_own_step move = true
+
 -- A step is a move that there may be; its event is the crew's.
 pub record Moves (may_answer : ℕ → Bool → Type 0) (step : Step) (w : Parts) (e : Event) (new : Parts) : Type 0 where
   pub move : Move
+  pub its_own : is_own_step move ≡ true
   pub step_is : step ≡ step_of move
   pub may : May w move
   pub crew : CrewMoves may_answer move w e new
   pub rows_are : new.rows ≡ rows_after w move
   pub tasks_are : new.tasks ≡ tasks_after w move
   pub owners_are : new.owners ≡ owners_after w move
+
+-- What a copier's step does to the parts, or what is told without them: a move that there may be, which is seen as this act of this party,
+-- and of no job.
+pub record CopierMoves (step : Step) (who : Party) (act : Act) (w : Parts) (e : Event) (new : Parts) : Type 0 where
+  pub move : Move
+  pub step_is : step ≡ step_of move
+  pub may : May w move
+  pub crew : CrewMoves NeverAsked move w e new
+  pub rows_are : new.rows ≡ rows_after w move
+  pub tasks_are : new.tasks ≡ tasks_after w move
+  pub owners_are : new.owners ≡ owners_after w move
+  pub by : e.party ≡ who
+  pub act_is : e.act ≡ act
+  pub jobless : e.job ≡ None
+  pub ownerless : e.owner ≡ None
 
 -- A step as the world tells it: whose owner's job its event is of stands in the rows.
 pub record Steps (may_answer : ℕ → Bool → Type 0) (step : Step) (w : Parts) (e : Event) (new : Parts) : Type 0 where

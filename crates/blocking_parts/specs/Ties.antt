@@ -15,8 +15,15 @@ use Rattle.blocking_lanes.specs.Tasks.{Task}
 use Rattle.blocking_lanes.specs.Ties.{Tasked}
 use Rattle.blocking_laws.specs.JobTable.{Kind, WakeHolder, Over, next_of_job, next_but_wake, has_finished, has_given_up}
 use Rattle.blocking_laws.specs.Jobs.{accepted_jobs, holder, standing, is_parked, is_running, is_woken, is_to_drop, is_marked, has_ended}
-use Rattle.blocking_laws.specs.Legal.{Legal}
-use Rattle.blocking_laws.specs.Seen.{events, acts_of, is_this}
+use Rattle.blocking_laws.specs.Legal.{PoolLaw}
+use Rattle.blocking_laws.specs.Lent.{copiers, has_owner}
+use Rattle.blocking_laws.specs.OwnerLaws.{OwnerLaws}
+use Rattle.blocking_laws.specs.OwnerWakes.{NoLostOwnerWake}
+use Rattle.blocking_laws.specs.Served.{IsServed}
+use Rattle.blocking_laws.specs.Staffed.{IsStaffedAsSeen}
+use Rattle.blocking_laws.specs.TaskLaws.{TaskLaws}
+use Rattle.blocking_laws.specs.Wakes.{NoLostWake}
+use Rattle.blocking_laws.specs.Seen.{AtEveryBeginning, EachMayFollow, events, acts_of, cut, task_cut, is_this}
 use Rattle.blocking_laws.specs.Steps.{may_cancel, kind_by}
 use Rattle.blocking_laws.specs.Turns.{Turn, GoesOn, IsWaiting, MustGiveUp, HasGivenUp, turn}
 use Rattle.blocking_laws.specs.declared.event.Act.{Act}
@@ -24,6 +31,7 @@ use Rattle.blocking_laws.specs.declared.event.Event.{Event}
 use Rattle.blocking_laws.specs.declared.event.Moment.{Moment}
 use Rattle.blocking_laws.specs.declared.event.Party.TheVariants.{Owner as ByOwner, Task as ByTask}
 use Rattle.blocking_laws.specs.declared.step.Step.{Step}
+use Rattle.blocking_laws.specs.declared.step.Step.TheVariants.{Ask, DropOwner, Link, Copy}
 use Rattle.blocking_pool.specs.Jobs.{JobNumber}
 use Rattle.blocking_pool.specs.declared.pool.standing.Standing.{Standing}
 use Rattle.blocking_pool.specs.declared.pool.standing.Standing.TheVariants.{Queued, Running, Parked, Done, Dropped}
@@ -141,9 +149,27 @@ pub record Tied (setting : ℕ) (plan : List Bool) (w : Parts) (past : List Mome
   pub marks : Marked past
   pub crossed : Crossed w past
 
--- What all parts keep: they hang together with what was seen, and what was seen is legal.
+-- What was seen keeps the laws but those of steps and of copies: parts don't know which owners are lent to copiers.
+pub record KeepsLaws (setting : ℕ) (plan : List Bool) (past : List Moment) : Type 0 where
+  pub pool : EachMayFollow (PoolLaw setting plan) past
+  pub owners : (h : ℕ) → OwnerLaws (cut h (events past))
+  pub tasks : (k s : ℕ) → holder past s ≡ Some (ByTask k) → TaskLaws s (task_cut k s (events past))
+  pub wakes : AtEveryBeginning NoLostWake past
+  pub owner_wakes : AtEveryBeginning NoLostOwnerWake past
+  pub served : AtEveryBeginning IsServed past
+  pub staffed : AtEveryBeginning IsStaffedAsSeen past
+
+-- a step isn't a copier's, and asks and drops no owner that is lent to one
+abbrev pub IsFree : List Moment → Step → Type 0
+IsFree past (Ask h call) = has_owner h (copiers past) ≡ false
+IsFree past (DropOwner h) = has_owner h (copiers past) ≡ false
+IsFree past (Link a b n) = ⊥
+IsFree past (Copy k) = ⊥
+IsFree past step = Unit {0}
+
+-- What all parts keep: they hang together with what was seen, and what was seen keeps the laws.
 pub record IsLawful (setting : ℕ) (plan : List Bool) (w : Parts) (past : List Moment) : Type 0 where
   pub tied : Tied setting plan w past
-  pub legal : Legal setting plan past
+  pub legal : KeepsLaws setting plan past
   pub served : Served setting past
   pub holding : Holding w.crew past

@@ -7,19 +7,21 @@ ghost use Rattle.blocking_laws.specs.Seen.{events, acts_of_owner};
 ghost use Rattle.blocking_laws.specs.Served.{IsServed};
 ghost use Rattle.blocking_laws.specs.Sessions.{is_poll_over, under_way};
 ghost use Rattle.blocking_laws.specs.Staffed.{IsStaffed, AreAsSeen};
-ghost use Rattle.blocking_laws.specs.Steps.{has_action, is_job_action};
+ghost use Rattle.blocking_laws.specs.Steps.{StepLaw, has_action, is_job_action};
+ghost use Rattle.blocking_laws.specs.declared.event.Act.{Act};
 ghost use Rattle.blocking_laws.specs.declared.event.Event.{Event};
 ghost use Rattle.blocking_laws.specs.declared.event.Moment.{Moment};
+ghost use Rattle.blocking_laws.specs.declared.event.Party.{Party};
 ghost use Rattle.blocking_laws.specs.declared.step.Step.{Step};
 ghost use Rattle.blocking_laws.specs.declared.step.Step.TheVariants.{Job};
 ghost use Rattle.blocking_crew.specs.Crews.{free_hands, busy_hands};
 ghost use Rattle.blocking_parts.specs.Carried.{bytes_of, bytes_to_come, polls_in};
-ghost use Rattle.blocking_parts.specs.Moves.{Steps};
+ghost use Rattle.blocking_parts.specs.Moves.{CopierMoves, Steps};
 ghost use Rattle.blocking_parts.specs.Parts.{Parts, next_at};
-ghost use Rattle.blocking_parts.specs.Ties.{IsLawful};
+ghost use Rattle.blocking_parts.specs.Ties.{IsFree, IsLawful};
 
 /// Whatever step lawful parts take, by the starts of a plan: they stay lawful, with the moment of the step added to what was seen;
-/// and their setting stays. The event carries no more bytes than were told before the step, of lawful parts or others.
+/// their setting stays; and the moment keeps the law of steps, where the step asks and drops no owner that is lent to a copier. The event carries no more bytes than were told before the step, of lawful parts or others.
 pub fn each_step()
     ensures lawful { (setting : ℕ) (plan : List Bool) (w new : Parts) (past : List Moment)
         (step : Step) (e : Event) → IsLawful setting plan w past →
@@ -28,8 +30,25 @@ pub fn each_step()
     ensures setting { (setting : ℕ) (plan : List Bool) (w new : Parts) (past : List Moment)
         (step : Step) (e : Event) → IsLawful setting plan w past →
         Steps (IsPlanned plan) step w e new → new.crew.pool.counts.setting ≡ setting }
+    ensures steps { (setting : ℕ) (plan : List Bool) (w new : Parts) (past : List Moment)
+        (step : Step) (e : Event) → IsLawful setting plan w past →
+        Steps (IsPlanned plan) step w e new → IsFree past step →
+        StepLaw past (record { step = step; event = e }) }
     ensures carried { (plan : List Bool) (w new : Parts) (step : Step) (e : Event) →
         Steps (IsPlanned plan) step w e new → length (bytes_of e.act) ≤ bytes_to_come w step }
+{}
+
+/// Whatever a copier's step does to lawful parts, and whatever is only told: they stay lawful, with its moment added to what was seen; and
+/// their setting stays.
+pub fn each_copier_step()
+    ensures lawful { (setting : ℕ) (plan : List Bool) (w new : Parts) (past : List Moment)
+        (asked : Step) (who : Party) (act : Act) (e : Event) → IsLawful setting plan w past →
+        CopierMoves asked who act w e new →
+        IsLawful setting plan new (record { step = asked; event = e } ∷ past) }
+    ensures setting { (setting : ℕ) (plan : List Bool) (w new : Parts) (past : List Moment)
+        (asked : Step) (who : Party) (act : Act) (e : Event) → IsLawful setting plan w past →
+        CopierMoves asked who act w e new →
+        new.crew.pool.counts.setting ≡ setting }
 {}
 
 /// New parts are lawful where nothing was seen, if their setting is above 0; and the limit of a setting is, whatever its text.

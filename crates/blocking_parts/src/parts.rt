@@ -41,13 +41,16 @@ impl Model for Parts {
 }
 
 impl Parts {
-    ghost use Rattle.std.specs.Prelude.{◌&&◌, slice_get, option_map};
+    ghost use Rattle.std.specs.Prelude.{◌&&◌, slice_get, option_map, true};
     ghost use Rattle.blocking_pool.specs.PoolAnswers.{pool_of};
     ghost use Rattle.blocking_crew.specs.Moves.{NeverAsked};
     ghost use Rattle.blocking_lanes.specs.Owners.{next_of};
     ghost use Rattle.blocking_parts.specs.Parts.{row_of, owner_of, job_at, places_of, next_at, let_go_of};
     ghost use Rattle.blocking_parts.specs.Carried.{bytes_to_come, front_for, polls_in};
-    ghost use Rattle.blocking_parts.specs.Moves.{Moves, Steps, may_ask_in, may_call_in, rests_in, wait_step};
+    ghost use Rattle.blocking_parts.specs.Moves.{CopierMoves, IsNote, Moves, Steps, may_ask_in, may_call_in, rests_in, wait_step};
+    ghost use Rattle.blocking_laws.specs.declared.event.Act.TheVariants.{Asked};
+    ghost use Rattle.blocking_laws.specs.declared.event.Party.TheVariants.{Owner as ByOwner};
+    ghost use Rattle.blocking_laws.specs.declared.step.Step.{Step};
     ghost use Rattle.blocking_lanes.specs.declared.owner.OwnerNext.TheVariants as next;
     ghost use Rattle.blocking_laws.specs.Steps.{is_job_action};
     ghost use Rattle.blocking_laws.specs.declared.step.Step.TheVariants as step;
@@ -70,7 +73,7 @@ impl Parts {
         }
     }
 
-    /// Takes a step, and answers what is seen of it. Where there is no room for what it adds to a list, or for the bytes that it tells, nothing
+    /// Takes a step, and answers what is seen of it; those of copiers have no action here. Where there is no room for what it adds to a list, or for the bytes that it tells, nothing
     /// is done. That there is none for a session is seen.
     pub fn step<S: Starter>(&mut self, step: Step, starter: &mut S) -> Result<Event, AllocError>
         ensures ok { IfOk result
@@ -106,6 +109,8 @@ impl Parts {
             Step::Sweep => Ok(self.sweep(starter)),
             Step::Stray(serial) => Ok(self.stray(serial, starter)),
             Step::Strike(serial) => Ok(self.strike(serial, starter)),
+            Step::Link(_reader, _writer, _piece) => Ok(self.crew.nothing(Party::Pool)),
+            Step::Copy(_copier) => Ok(self.crew.nothing(Party::Pool)),
         }
     }
 
@@ -136,8 +141,8 @@ impl Parts {
         }
     }
 
-    // Whether this owner is there and rests.
-    fn rests(&self, place: usize) -> bool
+    /// Whether this owner is there and rests.
+    pub fn rests(&self, place: usize) -> bool
         ensures { result ≡ rests_in (slice_get self.now.owners place) }
     {
         match self.owners.get(place) {
@@ -146,8 +151,8 @@ impl Parts {
         }
     }
 
-    // Whether this owner is there and may be asked for this.
-    fn may_ask(&self, place: usize, call: &HandleCall) -> bool
+    /// Whether this owner is there and may be asked for this.
+    pub fn may_ask(&self, place: usize, call: &HandleCall) -> bool
         ensures { result ≡ may_ask_in (slice_get self.now.owners place) call.now }
     {
         match self.owners.get(place) {
@@ -168,6 +173,32 @@ impl Parts {
         let told = call.try_clone()?;
         self.owners[place].ask(call);
         Ok(self.crew.tell(party, Act::Asked(told)))
+    }
+
+    /// The copier of this number asks an owner that may be asked for this. Where there is no memory for the event's copy of the call, nothing is
+    /// done.
+    pub fn ask_for(
+        &mut self,
+        copier: usize,
+        place: usize,
+        call: HandleCall,
+    ) -> Result<Event, AllocError>
+        requires { may_ask_in (slice_get self.old.owners place) call ≡ true }
+        ensures ok { IfOk result
+            (λ e. CopierMoves (step.Copy copier) (ByOwner place) (Asked call) self.old e self.new) }
+        ensures err { OnErr result (self.new ≡ self.old) }
+    {
+        let told = call.try_clone()?;
+        self.owners[place].ask(call);
+        Ok(self.crew.tell(Party::Owner(place), Act::Asked(told)))
+    }
+
+    /// What is told of a party without the parts: that a step did nothing, or what a copier does.
+    pub fn note(&self, party: Party, act: Act) -> Event
+        requires { IsNote party act }
+        ensures { (asked : Step) → CopierMoves asked party act self.now result self.now }
+    {
+        self.crew.tell(party, act)
     }
 
     // The poll of this owner takes its next action.

@@ -1,10 +1,15 @@
 //! Copies between readers and writers whose every poll is told by a row: what they answer, and what was written and flushed.
+ghost use Rattle.std.specs.Prelude.{◌<◌, IfOk};
+ghost use Rattle.blocking_io.specs.Copies.{IsCopied};
+
 use blocking::{AsyncRead, AsyncWrite, Copier, CopyFault, Fault, IoFault};
 use futures::executor::block_on;
 use futures::task::{Context, Poll};
-use std::io;
+use std::alloc::AllocGlobal;
 use std::io::ErrorKind;
+use std::random::RandomSource;
 use std::test::Fail;
+use std::{io, sync};
 
 // How one poll is answered.
 #[derive(Clone, Copy)]
@@ -288,6 +293,44 @@ fn copies_end_as_their_calls_say(rt: HostRuntime) -> Result<(), Fail> {
             .enumerate()
             .all(|(place, byte)| *byte == (place % 256) as u8);
         assert!(rt; is_right, "{}", row.name);
+    }
+    Ok(())
+}
+
+// Copies all by pieces of so many bytes, and tells how many bytes that were.
+//
+// What its Ok says of any reader and writer is known without a proof: that the reader was read to its end, that the writer took just what it
+// gave, and that a flush was made behind the last write.
+fn whole_copy<
+    R: sync::Wait + AllocGlobal + RandomSource,
+    A: AsyncRead + Drop,
+    B: AsyncWrite + Drop,
+>(rt: &R, reader: A, writer: B, piece: usize) -> Result<u64, Fail>
+    requires some { 0 < piece }
+    requires reader_open { A.closed reader → ⊥ }
+    requires writer_open { B.closed writer → ⊥ }
+    ensures { IfOk result (IsCopied A.reads B.writes reader writer) }
+{
+    let copier = Copier::new(rt.alloc(), reader, writer, piece)?;
+    Ok(block_on(rt, copier)??)
+}
+
+#[test]
+fn whole_copies_are_counted(rt: HostRuntime) -> Result<(), Fail> {
+    // Each piece's length, and how many bytes two at most and then two whole pieces are.
+    for (piece, written) in [(1, 3), (2, 6), (5, 12)] {
+        let source = Source {
+            reads: &[Count(2), Wait, Count(usize::MAX), Count(usize::MAX)],
+            given: 0,
+        };
+        let sink = Sink {
+            writes: &[],
+            flushes: &[Wait],
+            bytes: Vec::new(rt.alloc()),
+            is_flushed: false,
+            is_closed: false,
+        };
+        assert_eq!(rt; whole_copy(&rt, source, sink, piece)?, written, "{piece}");
     }
     Ok(())
 }

@@ -5,6 +5,8 @@
 #[cfg(test)]
 mod calls;
 #[cfg(test)]
+mod claims;
+#[cfg(test)]
 mod commands;
 #[cfg(test)]
 mod copies;
@@ -12,6 +14,10 @@ mod copies;
 mod counted;
 #[cfg(test)]
 mod ends;
+#[cfg(test)]
+mod halfway;
+#[cfg(test)]
+mod kinds;
 #[cfg(test)]
 mod leaving;
 #[cfg(test)]
@@ -29,7 +35,11 @@ mod scene;
 #[cfg(test)]
 mod sections;
 #[cfg(test)]
+mod sweeping;
+#[cfg(test)]
 mod threads;
+#[cfg(test)]
+mod twice;
 #[cfg(test)]
 mod visit;
 #[cfg(test)]

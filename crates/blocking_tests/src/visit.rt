@@ -21,6 +21,17 @@ pub(crate) fn comes(flag: &AtomicBool) -> bool {
     false
 }
 
+/// Whether the count comes so far before long.
+pub(crate) fn reaches(count: &AtomicUsize, wanted: usize) -> bool {
+    for _ in 0..LOOKS {
+        if count.load(Ordering::SeqCst) >= wanted {
+            return true;
+        }
+        thread::yield_now();
+    }
+    false
+}
+
 /// Where a call stops until it is let go on.
 #[derive(Clone, Copy)]
 pub(crate) enum Stop {

@@ -15,7 +15,9 @@ use Rattle.blocking_laws.specs.Places.{seen_room, seated, seen_put, seen_peek}
 use Rattle.blocking_laws.specs.OwnerSeats.{pipe_seat}
 use Rattle.blocking_laws.specs.OwnerLaws.{Works, JobMayAct, OwnerMayAct, OwnerLaw}
 use Rattle.blocking_laws.specs.TaskLaws.{Calls, TaskMayAct, TaskLaw}
-use Rattle.blocking_laws.specs.Steps.{StepLaw, Happens, has_action, is_answered, is_job_action, job_of, owner_of, named, party, next_with}
+use Rattle.blocking_laws.specs.Copies.{CopierAction, AskReader, AskWriter, Tells, next_of_copier}
+use Rattle.blocking_laws.specs.Lent.{Copier, copiers, copier_in}
+use Rattle.blocking_laws.specs.Steps.{StepLaw, Happens, asked_by, copier_party, has_action, is_answered, is_job_action, job_of, owner_of, named, party, next_with}
 use Rattle.blocking_laws.specs.Legal.{Legal, PoolLaw}
 use Rattle.blocking_laws.specs.declared.event.Act.{Act}
 use Rattle.blocking_laws.specs.declared.event.Act.TheVariants.{Accepted}
@@ -24,7 +26,7 @@ use Rattle.blocking_laws.specs.declared.event.Moment.{Moment}
 use Rattle.blocking_laws.specs.declared.event.Party.{Party}
 use Rattle.blocking_laws.specs.declared.event.Party.TheVariants.{Owner, Task, Worker, Pool}
 use Rattle.blocking_laws.specs.declared.step.Step.{Step}
-use Rattle.blocking_laws.specs.declared.step.Step.TheVariants.{Arrive, Take, Job, Io, End, Wait, Late}
+use Rattle.blocking_laws.specs.declared.step.Step.TheVariants.{Arrive, Take, Job, Io, End, Wait, Late, Copy}
 use Rattle.blocking_laws.proofs.Beginnings.{before, keeps, owner_keeps, task_keeps}
 use Rattle.blocking_laws.proofs.Queues.{same_self, times_both, times_one, held_so, known_so}
 
@@ -246,6 +248,16 @@ by_job setting plan past now w t legal so_far step has accepted =
     let held = in_hand_is_held setting plan past legal.pool.1 w found.job found.is in
     held_accepts_none held.by setting plan past now w found.job t (so_far found.job held.by held.is) legal event found.is held.is accepted
 
+-- a copier's step is no worker's
+no_asking_worker : (action : CopierAction) (c : Copier) (w : ℕ) → Worker w ≡ asked_by action c → ⊥
+no_asking_worker (AskReader call) c w by = cc
+no_asking_worker (AskWriter call) c w by = cc
+no_asking_worker (Tells act) c w by = cc
+
+no_copying_worker : (o : Option Copier) (past : List Moment) (w : ℕ) → Worker w ≡ copier_party o past → ⊥
+no_copying_worker None past w by = cc
+no_copying_worker (Some c) past w by = no_asking_worker (next_of_copier c past) c w by
+
 -- a worker accepts a job by its own job alone
 accepts_at : (b : Bool) (past : List Moment) (step : Step) (w t : ℕ) → has_action past step ≡ b → Happens b past step (Accepted t) → Worker w ≡ party past step
     → (v : ℕ) × (step ≡ Job v) × (has_action past (Job v) ≡ true)
@@ -257,6 +269,7 @@ accepts_at true past (Io v answer) w t has happens by = absurd cc
 accepts_at true past (End v) w t has happens by = absurd happens.1
 accepts_at true past (Wait v) w t has happens by = absurd happens.1
 accepts_at true past (Late v) w t has happens by = absurd happens.1
+accepts_at true past (Copy k) w t has happens by = absurd (no_copying_worker (copier_in k (copiers past)) past w by)
 accepts_at true past _ w t has happens by = absurd cc
 
 by_worker : (setting : ℕ) (plan : List Bool) (past : List Moment) (now : Moment) (w t : ℕ) → Legal setting plan (now ∷ past) → HeldRightly past

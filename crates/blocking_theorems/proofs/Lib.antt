@@ -4,3 +4,4 @@ pub mod OneAct
 pub mod OneOwnerAct
 pub mod Holders
 pub mod OneEvent
+pub mod NoCopies

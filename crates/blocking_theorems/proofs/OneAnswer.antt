@@ -11,7 +11,8 @@ use Rattle.blocking_laws.specs.Counts.{workers, limit}
 use Rattle.blocking_laws.specs.Growth.{GrowthLaw, IsPlanned, StartsRightly, grows}
 use Rattle.blocking_laws.specs.Turns.{hand}
 use Rattle.blocking_laws.specs.Answers.{take_answer, end_answer, wait_act, PoolAnswers}
-use Rattle.blocking_laws.specs.Steps.{StepLaw, Fits, Happens, has_action, is_pool_step, is_out_of_memory, is_take, IsBegun, IsEndOf, IsWaitOf, IsSweep, IsWakeOf, IsCancelOf, named, party, job_of, owner_of}
+use Rattle.blocking_laws.specs.Lent.{Copier, copiers, copier_in}
+use Rattle.blocking_laws.specs.Steps.{StepLaw, Fits, IsOfCopier, Happens, has_action, is_pool_step, is_out_of_memory, is_take, IsBegun, IsEndOf, IsWaitOf, IsSweep, IsWakeOf, IsCancelOf, named, party, job_of, owner_of}
 use Rattle.blocking_laws.specs.Legal.{PoolLaw}
 use Rattle.blocking_theorems.proofs.Growths.{same_event, same_by, same_starts, growth_of}
 use Rattle.blocking_laws.specs.declared.event.Act.{Act}
@@ -22,7 +23,7 @@ use Rattle.blocking_laws.specs.declared.event.Party.{Party}
 use Rattle.blocking_laws.specs.declared.event.WaitEnd.{WaitEnd}
 use Rattle.blocking_laws.specs.declared.event.WaitEnd.TheVariants.{Woken, TimedOut}
 use Rattle.blocking_laws.specs.declared.step.Step.{Step}
-use Rattle.blocking_laws.specs.declared.step.Step.TheVariants.{New, Ask, DropOwner, Spawn, Arrive, Take, Io, End, Wait, Late, SetLimit, Sweep, Stray, Strike}
+use Rattle.blocking_laws.specs.declared.step.Step.TheVariants.{New, Ask, DropOwner, Spawn, Arrive, Take, Io, End, Wait, Late, SetLimit, Sweep, Stray, Strike, Link, Copy}
 
 -- ---- what each step is answered
 
@@ -168,6 +169,11 @@ same_job setting plan past now other _ _ kind other_kind memory other_memory ans
 
 -- ---- both events
 
+-- so is what a copier does
+same_copy : (o : Option Copier) (past : List Moment) (act other : Act) → IsOfCopier o past act → IsOfCopier o past other → act ≡ other
+same_copy None past act other kind other_kind = absurd kind
+same_copy (Some c) past act other kind other_kind = kind ∙ sym other_kind
+
 -- what is done in two events of one step is the same
 acts_of_kind : (setting : ℕ) (plan : List Bool) (past : List Moment) (step : Step) (now other : Moment) → is_pool_step step ≡ true
     → is_out_of_memory now.event.act ≡ false → is_out_of_memory other.event.act ≡ false
@@ -192,6 +198,9 @@ acts_of_kind setting plan past (Stray s) now other of_pool memory other_memory k
     wake_is setting past now s now.event.act kind law.answers ∙ sym (wake_is setting past other s other.event.act other_kind other_law.answers)
 acts_of_kind setting plan past (Strike s) now other of_pool memory other_memory kind other_kind law other_law =
     cancel_is setting past now s now.event.act kind law.answers ∙ sym (cancel_is setting past other s other.event.act other_kind other_law.answers)
+acts_of_kind setting plan past (Link a b n) now other of_pool memory other_memory kind other_kind law other_law = kind ∙ sym other_kind
+acts_of_kind setting plan past (Copy k) now other of_pool memory other_memory kind other_kind law other_law =
+    same_copy (copier_in k (copiers past)) past now.event.act other.event.act kind other_kind
 acts_of_kind setting plan past _ now other of_pool memory other_memory kind other_kind law other_law = absurd cc
 
 same_act_by : (b : Bool) (setting : ℕ) (plan : List Bool) (past : List Moment) (step : Step) (now other : Moment) → is_pool_step step ≡ true

@@ -9,6 +9,7 @@
 #![tactic(auto)]
 
 pub mod answers;
+pub mod copies;
 pub mod definitions;
 pub mod growth;
 pub mod owners;

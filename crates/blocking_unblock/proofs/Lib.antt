@@ -2,3 +2,4 @@ mod Crossings
 mod Loans
 mod Replies
 mod Turns
+mod Quick

@@ -5,8 +5,9 @@ ghost use Rattle.blocking_unblock.specs.Owners.{kind_of, crossed, is_back};
 
 use crate::session::Side;
 use crate::spare::Spare;
-use blocking_core::pipe::RingStore;
-use blocking_ends::{AnyPlace, PeekEnd, SendEnd, link, link_drain, link_in_over};
+use blocking_ends::{
+    AnyPlace, ItemSendEnd, PeekEnd, SendEnd, link_drain, link_in_over, link_items,
+};
 use blocking_jobs::{Link, Linked, MayFail, ReadBack, SessionStore, WriteBack};
 use std::alloc::{AllocError, AllocGlobal};
 use std::sync::{Arc, Wait};
@@ -32,7 +33,7 @@ pub(crate) struct WriteParts<T: Drop, I: Drop, H: Wait + Copy> {
 #[derive(Drop)]
 pub(crate) struct ItemParts<T: Drop, I: Drop, H: Wait + Copy> {
     pub side: Side<T, I, H>,
-    pub end: SendEnd<I, AnyPlace, RingStore, H>,
+    pub end: ItemSendEnd<I, AnyPlace, H>,
     pub link: Arc<Link<T, MayFail>>,
 }
 
@@ -97,7 +98,7 @@ pub(crate) fn item_parts<T: Drop, I: Drop, H: Wait + AllocGlobal + Copy>(
         way_back,
         link: theirs,
     } = Linked::new(rt)?;
-    let (job_end, end) = link(rt, capacity)?;
+    let (job_end, end) = link_items(rt, capacity)?;
     Ok(ItemParts {
         side: Side::Streaming(end, way_back),
         end: job_end,

@@ -1,5 +1,5 @@
 //! The owner's side of a session.
-ghost use Rattle.std.specs.Prelude.{◌≡◌, ◌+◌, ◌<◌, ◌≤◌, length, true, option_map, IfOk, OnErr};
+ghost use Rattle.std.specs.Prelude.{◌≡◌, ◌+◌, ◌<◌, ◌≤◌, length, true, option_map, IfOk, IfSome, IfNone, OnErr};
 ghost use Rattle.futures.specs.Task.{IsArmed, Keeps};
 ghost use Rattle.blocking_core.specs.OwnerCalls.{has_pipe};
 ghost use Rattle.blocking_core.specs.declared.unblock.SessionKind.TheVariants.{Reading, Writing, Streaming};
@@ -10,11 +10,11 @@ ghost use Rattle.blocking_unblock.specs.Owners.{note_of_drain, answer_of_drain, 
 
 use crate::spare::Spare;
 use blocking_core::io::{Fault, JobFault, Position};
-use blocking_core::pipe::{Drained, Filled, Received, RingStore};
+use blocking_core::pipe::{Drained, Filled, Received};
 use blocking_core::pool::{JobNo, WakeNote};
 use blocking_core::task::{OfSlot, Seat};
 use blocking_core::unblock::{OwnerAnswer, OwnerEnd, SessionKind};
-use blocking_ends::{AnyPlace, DrainEnd, FillEnd, PeekEnd, RecvEnd, SendEnd};
+use blocking_ends::{AnyPlace, DrainEnd, FillEnd, ItemRecvEnd, PeekEnd, SendEnd};
 use blocking_jobs::{MayFail, ReadBack, Returned, SessionStore, Sought, WayBack, WriteBack};
 use futures::task::Context;
 use std::io;
@@ -25,7 +25,7 @@ use std::sync::Wait;
 pub(crate) enum Side<T: Drop, I: Drop, H: Wait + Copy> {
     Reading(DrainEnd<u8, AnyPlace, SessionStore, H>, WayBack<T, ReadBack<H>, H>),
     Writing(FillEnd<u8, AnyPlace, SessionStore, H>, WayBack<T, WriteBack<H>, H>),
-    Streaming(RecvEnd<I, AnyPlace, RingStore, H>, WayBack<T, MayFail, H>),
+    Streaming(ItemRecvEnd<I, AnyPlace, H>, WayBack<T, MayFail, H>),
     Seeking(Position, WayBack<T, Sought, H>),
     Operating(WayBack<T, MayFail, H>),
 }
@@ -246,6 +246,22 @@ impl<T: Drop, I: Drop, H: Wait + Copy> Session<T, I, H> {
             unreachable!()
         };
         told_of_fill(end.fill_or_seat(cx, bytes))
+    }
+
+    /// The first item, where the session is one of items, its end is open and one is there; and the note of a job that waits, which has to be
+    /// spent. It waits for nothing, but for a moment where the two go in step.
+    pub(crate) fn try_receive(&mut self) -> Option<(I, Option<WakeNote>)>
+        ensures some { IfSome result (λ got. (kind_of self.old.side ≡ Streaming) × (self.old.owner_end ≡ Open)) }
+        ensures received { IfSome result (λ got. crossed self.new.side ≡ crossed self.old.side + 1) }
+        ensures none { IfNone result (crossed self.new.side ≡ crossed self.old.side) }
+        ensures kind { kind_of self.new.side ≡ kind_of self.old.side }
+        ensures back_same { is_back self.new.side ≡ is_back self.old.side }
+        ensures end { self.new.owner_end ≡ self.old.owner_end }
+    {
+        match (&mut self.side, self.owner_end) {
+            (Side::Streaming(end, _), OwnerEnd::Open) => end.try_receive(),
+            _ => None,
+        }
     }
 
     /// Moves the first item out of the pipe, or waits there for one.

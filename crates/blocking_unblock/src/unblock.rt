@@ -42,6 +42,14 @@ use std::{fmt, io, mem};
 ///
 /// A handle is moved as it is, with its owner and with its job, so one that holds a buffer of its own is best lent in a `Box`.
 ///
+/// Three things differ from a handle that is used in place:
+///
+/// - What a write took is written later. Without a flush that is ready it may be lost, as where the owner is dropped, and a flush doesn't mean
+///   that the disk has it.
+/// - A job reads ahead, so the handle stands further than what was read. An operation on it, a write or a seek goes on from there, and what was
+///   read ahead and not received is lost then.
+/// - So an owner of standard input or of a socket that is dropped may have eaten bytes that nobody received.
+///
 /// `I` is the type of the items of a handle that is an iterator; any type will do for another.
 pub struct Unblock<T: Drop, I: Drop, J: Job, H: Runtime> {
     place: Place<T, I, H>,
@@ -606,6 +614,17 @@ impl<T: Iterator<Item = I> + Drop, I: Drop, J: Job + Carries<ItemJob<T, I, H>>, 
         ensures armed { OnPending result (IsArmed cx.new) }
         ensures kept { Keeps cx.old cx.new }
     {
+        // (an item that is there is given without the machine, which would come to that)
+        // stream: PollAgain
+        if let Place::Lent(session) = &mut self.place {
+            if let Some((item, note)) = session.try_receive() {
+                if let Some(note) = note {
+                    // stream: WakeJob
+                    let _ = self.executor.wake(note);
+                }
+                return Poll::Ready(Some(Ok(item)));
+            }
+        }
         let mut brought = ToStream { item: None };
         match self.poll(PollCall::Next, cx, &mut brought, &mut [], &[]) {
             Poll::Pending => Poll::Pending,

@@ -7,37 +7,60 @@ use crate::scene::Step::{GoOn, Goes, Poll, PollReader, Rests, Stops, Wakes};
 use crate::scene::{Row, first_wrong_in, rests};
 use crate::writer::{Page, Plan, PlannedWriter, Taken};
 use crate::writes::{ALL, woken};
-use blocking::{AsyncWrite, Executor, Host, ItemJob, OpJob, ReadJob, Runtime, Unblock, WriteJob};
+use blocking::{
+    AsyncWrite, Executor, Host, ItemJob, OpJob, ReadJob, Runtime, SeekJob, Unblock, WriteJob,
+};
 use blocking_core::pool::{Carries, Job, JobNo, JobStep};
 use futures::task::Poll as Polled;
 use futures::test::MockTask;
 use std::io;
+use std::marker::PhantomData;
 use std::sync::Arc;
 use std::test::Fail;
 
-// A job that is dropped after so many steps. One at whose end it waits isn't counted, since it looks again once it is woken.
-#[derive(Drop)]
-struct Cut<J: Job> {
-    job: Option<J>,
-    left: u32,
+// After how many steps a job is dropped. One at whose end it waits isn't counted, since it looks again once it is woken.
+trait Steps {
+    const STEPS: u32;
 }
 
-// It has found room, and has read; or it has found bytes, and has written.
-const STEPS: u32 = 2;
+// Once the handle was called: a job of a seek begins with that.
+#[derive(Drop)]
+struct One;
 
-impl<J: Job> Carries<J> for Cut<J> {
+impl Steps for One {
+    const STEPS: u32 = 1;
+}
+
+// One that reads or writes, or gives items, has found room or bytes before. An operation's result was put.
+#[derive(Drop)]
+struct Two;
+
+impl Steps for Two {
+    const STEPS: u32 = 2;
+}
+
+// A job that is dropped then.
+#[derive(Drop)]
+struct Cut<J: Job, S: Steps> {
+    job: Option<J>,
+    taken: u32,
+    steps: PhantomData<S>,
+}
+
+impl<J: Job, S: Steps> Carries<J> for Cut<J, S> {
     ghost use Rattle.std.specs.Prelude.{Some, refl};
 
-    ghost wrapped = { λ job. record { job = Some job; left = 2 } };
+    ghost wrapped = { λ job. record { job = Some job; taken = 0; steps = record {} } };
 
     ghost opened = { λ cut. cut.job };
 
     ghost undoes = { λ job. refl };
 
-    fn wrap(named: J) -> Cut<J> {
+    fn wrap(named: J) -> Cut<J, S> {
         Cut {
             job: Some(named),
-            left: STEPS,
+            taken: 0,
+            steps: PhantomData,
         }
     }
 
@@ -46,11 +69,11 @@ impl<J: Job> Carries<J> for Cut<J> {
     }
 }
 
-impl<J: Job> Job for Cut<J> {
+impl<J: Job, S: Steps> Job for Cut<J, S> {
     ghost may_answer = { λ _ _. Unit {0} };
 
     fn step(&mut self, me: JobNo) -> JobStep {
-        if self.left == 0 {
+        if self.taken >= S::STEPS {
             self.job = None;
             return JobStep::Done;
         }
@@ -59,7 +82,7 @@ impl<J: Job> Job for Cut<J> {
         };
         let step = job.step(me);
         if let JobStep::Again = step {
-            self.left -= 1;
+            self.taken += 1;
         }
         step
     }
@@ -87,8 +110,8 @@ const CUT: Row = Row {
     ],
 };
 
-fn first_wrong_of_cut<H: Host + Print>(rt: H) -> io::Result<Option<usize>> {
-    let Ok(executor) = Executor::<Cut<ReadJob<Planned, H>>, H>::new(rt, Some("1")) else {
+fn first_wrong_of_cut<H: Host>(rt: H) -> io::Result<Option<usize>> {
+    let Ok(executor) = Executor::<Cut<ReadJob<Planned, H>, Two>, H>::new(rt, Some("1")) else {
         return Err(io::Error::from(io::ErrorKind::Other));
     };
     first_wrong_in(rt, executor, &CUT)
@@ -100,7 +123,7 @@ fn dropped_job_wakes_its_owner(rt: HostRuntime) -> Result<(), Fail> {
     Ok(())
 }
 
-type CutWriter<H> = Cut<WriteJob<PlannedWriter<H>, H>>;
+type CutWriter<H> = Cut<WriteJob<PlannedWriter<H>, H>, Two>;
 
 // Whether an owner waits for its flush, while its writer stops, until its job is dropped.
 fn waits_for_the_drop<A: AsyncWrite>(owner: &mut A, mock: &mut MockTask, track: &Track) -> bool
@@ -147,33 +170,40 @@ fn dropped_writing_job_wakes_its_owner(rt: HostRuntime) -> Result<(), Fail> {
     Ok(())
 }
 
-// Whether the owner of a handle, whose job is dropped once that was called, is woken for it, and only once the handle is gone.
-fn is_told_last<J: Begins<Endless<H>, H> + Send + 'static, H: Host>(rt: H) -> io::Result<bool> {
-    let Ok(executor) = Executor::<Cut<J>, H>::new(rt, Some("1")) else {
+// Whether the owner of a handle, whose job is dropped once that was called, is woken for it, and only once the handle is gone. It waits for the handle
+// in another task than for the call that it was lent for.
+fn is_told_last<
+    J: Begins<Endless<H>, H> + Send + 'static,
+    S: Steps + Drop + Send + 'static,
+    H: Host,
+>(rt: H) -> io::Result<bool> {
+    let Ok(executor) = Executor::<Cut<J, S>, H>::new(rt, Some("1")) else {
         return Err(io::Error::from(io::ErrorKind::Other));
     };
     let tally = Arc::new(rt.alloc(), Tally::new())?;
     let mut mock = MockTask::new(&rt)?;
+    let later = MockTask::new(&rt)?;
     let handle = Endless {
         rt,
         tally: Arc::try_clone(&tally)?,
         pace: Pace::Stops,
     };
-    let mut owner = Unblock::<_, u8, Cut<J>, H>::with_capacity(4, executor, handle);
+    let mut owner = Unblock::<_, u8, Cut<J, S>, H>::with_capacity(4, executor, handle);
     let _ = J::begin(&mut owner, &mut mock);
     if !tally.track.stops() || owner.is_closed() {
         return Ok(false);
     }
-    let waits = mock.enter(|cx| owner.poll_idle(cx).is_pending());
+    let waits = later.enter(|cx| owner.poll_idle(cx).is_pending());
     tally.track.go_on();
-    Ok(waits && woken(&mock) && tally.gone() == 1)
+    Ok(waits && woken(&later) && tally.gone() == 1)
 }
 
 #[test]
 fn handle_of_a_dropped_job_is_gone_before_its_owner_is_told(rt: HostRuntime) -> Result<(), Fail> {
-    assert!(rt; is_told_last::<ReadJob<_, _>, _>(rt)?);
-    assert!(rt; is_told_last::<WriteJob<_, _>, _>(rt)?);
-    assert!(rt; is_told_last::<ItemJob<_, u8, _>, _>(rt)?);
-    assert!(rt; is_told_last::<OpJob<Touch, _, _>, _>(rt)?);
+    assert!(rt; is_told_last::<ReadJob<_, _>, Two, _>(rt)?);
+    assert!(rt; is_told_last::<WriteJob<_, _>, Two, _>(rt)?);
+    assert!(rt; is_told_last::<ItemJob<_, u8, _>, Two, _>(rt)?);
+    assert!(rt; is_told_last::<SeekJob<_, _>, One, _>(rt)?);
+    assert!(rt; is_told_last::<OpJob<Touch, _, _>, Two, _>(rt)?);
     Ok(())
 }

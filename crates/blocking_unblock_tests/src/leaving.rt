@@ -1,15 +1,16 @@
 //! Owners that leave their sessions: what they lent is free at once, and no more is read for them than was under way.
 use crate::endless::{Begins, Beside, Endless, Owner, Pace, Pool, Tally, Touch, comes_true, rests};
 use crate::reader::{Planned, Track};
-use blocking::{Host, ItemJob, OpJob, ReadJob, SeekJob, Unblock, WriteJob};
-use blocking_core::pool::Job;
+use blocking::{Executor, Host, ItemJob, OpJob, ReadJob, SeekJob, Unblock, WriteJob};
+use blocking_core::pool::{Carries, Job, JobNo, JobStep};
 use futures::executor::block_on;
 use futures::test::MockTask;
 use std::alloc::Global;
+use std::hint::spin_loop;
 use std::io::Write;
 use std::sync::{Arc, Mutex, Wait};
 use std::test::Fail;
-use std::time::Duration;
+use std::time::{Duration, Instant};
 use std::{io, thread};
 
 // How many owners leave at once.
@@ -252,6 +253,95 @@ fn writer_that_runs_writes_all(rt: HostRuntime) -> Result<(), Fail> {
 fn queued_writer_writes_nothing(rt: HostRuntime) -> Result<(), Fail> {
     assert!(rt; Desk::new(rt, one_worker(rt)?)?.flushes(rt, Leaves::Queued, b"")?);
     Ok(())
+}
+
+// A job that stays for a while where it waits, before its run ends: it is seated meanwhile, and runs.
+#[derive(Drop)]
+struct Stays<J: Job> {
+    job: J,
+}
+
+// How long it stays: for 100 milliseconds at least, since a processor takes 10 nanoseconds or more for each.
+const SPINS: u32 = 10_000_000;
+
+impl<J: Job> Carries<J> for Stays<J> {
+    ghost use Rattle.std.specs.Prelude.{Some, refl};
+
+    ghost wrapped = { λ job. record { job = job } };
+
+    ghost opened = { λ stays. Some stays.job };
+
+    ghost undoes = { λ job. refl };
+
+    fn wrap(named: J) -> Stays<J> {
+        Stays { job: named }
+    }
+
+    fn unwrap(self) -> Option<J> {
+        Some(self.job)
+    }
+}
+
+impl<J: Job> Job for Stays<J> {
+    ghost may_answer = { λ _ _. Unit {0} };
+
+    fn step(&mut self, me: JobNo) -> JobStep {
+        let step = self.job.step(me);
+        if let JobStep::Waiting = step {
+            for _ in 0..SPINS {
+                spin_loop();
+            }
+        }
+        step
+    }
+
+    fn abandoned(&self) -> bool {
+        self.job.abandoned()
+    }
+}
+
+// Whether a writer flushes all whose owner leaves while its job, which has written all, is seated and runs. None where he was too slow for that.
+fn flushes_where_seated<J: Job + Carries<WriteJob<Late<H>, H>>, H: Host>(
+    rt: H,
+    pool: Executor<J, H>,
+) -> io::Result<Option<bool>> {
+    let flushed = Arc::new(rt.alloc(), Flushed::new(rt.alloc()))?;
+    let mut mock = MockTask::new(&rt)?;
+    let writer = Late {
+        rt,
+        flushed: Arc::try_clone(&flushed)?,
+        kept: Vec::new(rt.alloc()),
+        is_to_stop: false,
+    };
+    let start = Instant::now(&rt)?;
+    let mut owner = Unblock::<_, u8, J, H>::with_capacity(4, pool, writer);
+    let _ = WriteJob::begin(&mut owner, &mut mock);
+    thread::sleep(&rt, Duration::from_millis(40));
+    drop(owner);
+    let is_in_time = start.elapsed(&rt)? < Duration::from_millis(90);
+    let flushes = flushed.track.goes() && flushed.holds(&rt, b"abcd");
+    Ok(if is_in_time { Some(flushes) } else { None })
+}
+
+fn flushes_in_time<H: Host>(rt: H) -> io::Result<Option<bool>> {
+    match Executor::<Stays<WriteJob<Late<H>, H>>, H>::new(rt, Some("1")) {
+        Ok(pool) => flushes_where_seated(rt, pool),
+        Err(_) => Ok(None),
+    }
+}
+
+// How often is tried to be in time.
+const TRIES: u32 = 6;
+
+#[test]
+fn writer_that_is_seated_and_runs_flushes_all(rt: HostRuntime) -> Result<(), Fail> {
+    for _ in 0..TRIES {
+        if let Some(flushes) = flushes_in_time(rt)? {
+            assert!(rt; flushes);
+            return Ok(());
+        }
+    }
+    panic!(rt; "the machine is too slow")
 }
 
 // Whether a reader whose job is over goes as its owner is dropped, by this thread.

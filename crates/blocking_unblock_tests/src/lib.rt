@@ -27,8 +27,6 @@ mod leaving;
 #[cfg(test)]
 mod many_writes;
 #[cfg(test)]
-mod memory;
-#[cfg(test)]
 mod places;
 #[cfg(test)]
 mod reader;

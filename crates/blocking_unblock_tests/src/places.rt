@@ -478,7 +478,7 @@ where
         + Carries<ItemJob<Gated, u8, H>>
         + Carries<SeekJob<Gated, H>>
         + Carries<OpJob<Jump, Gated, H>>,
-    H: Host + Print,
+    H: Host,
 {
     // How what a step shows fits that isn't to be refused.
     fn does(&mut self, step: Step) -> io::Result<Came> {
@@ -513,28 +513,10 @@ where
         Ok(Came::if_right(matches!(came, Came::Refused(Refusal::Memory))))
     }
 
-    // Whether a step shows what it must, where its session may be refused once: that is printed, the owner has its handle, and it tries
-    // once more.
-    fn is_shown(&mut self, step: Step) -> io::Result<bool> {
-        let came = self.shows(step)?;
-        let Came::Refused(why) = came else {
-            return Ok(came.is_right());
-        };
-        println!(self.rt; "refused: {why}")?;
-        if says(self.rt, &self.owner, "Unblock { io: <blocked> }")?.is_right() {
-            return Ok(false);
-        }
-        Ok(self.shows(step)?.is_right())
-    }
-
     // The place of the first step that shows something else than it must, if there is one.
-    fn first_wrong(&mut self, way: Way, steps: &[Step]) -> io::Result<Option<usize>> {
+    fn first_wrong(&mut self, steps: &[Step]) -> io::Result<Option<usize>> {
         for (place, step) in steps.iter().enumerate() {
-            let is_right = match way {
-                Way::MayBeRefused => self.is_shown(*step)?,
-                Way::Default | Way::TooMuch => self.shows(*step)?.is_right(),
-            };
-            if !is_right {
+            if !self.shows(*step)?.is_right() {
                 return Ok(Some(place));
             }
         }
@@ -542,21 +524,16 @@ where
     }
 }
 
-/// How an owner's steps are played: how much the pipes of its sessions hold, and whether its sessions may be refused, each once.
+/// How much the pipes of an owner's sessions hold.
 #[derive(Clone, Copy)]
 pub(crate) enum Way {
     Default,
     // As much as no memory does.
     TooMuch,
-    MayBeRefused,
 }
 
 /// The place of the first step that shows something else than it must, if there is one.
-pub(crate) fn first_wrong<H: Host + Print>(
-    rt: H,
-    way: Way,
-    steps: &[Step],
-) -> io::Result<Option<usize>> {
+pub(crate) fn first_wrong<H: Host>(rt: H, way: Way, steps: &[Step]) -> io::Result<Option<usize>> {
     let gate = Arc::new(rt.alloc(), Gate::new(NO_FAULTS))?;
     let handle = Gated::new(rt.alloc(), Arc::try_clone(&gate)?, 1000, usize::MAX)?;
     let Ok(executor) = Executor::<Kinds<H>, H>::new(rt, Some("1")) else {
@@ -565,11 +542,9 @@ pub(crate) fn first_wrong<H: Host + Print>(
     let owner = match way {
         Way::TooMuch => Unblock::with_capacity(usize::MAX, executor, handle),
         Way::Default => Unblock::new(executor, handle),
-        // (for the whole handle, and few pieces of memory)
-        Way::MayBeRefused => Unblock::with_capacity(131_072, executor, handle),
     };
     let mut scene = Scene { rt, owner, gate };
-    scene.first_wrong(way, steps)
+    scene.first_wrong(steps)
 }
 
 #[test]

@@ -18,8 +18,6 @@ pub(crate) enum Step {
     Poll(usize, Sight),
     /// Polls into it, each after a wake where it waited, until as many bytes came as have to be seen: a read may give fewer.
     Read(usize, Sight),
-    /// One read of an idle reader. Where its session is refused, that is printed, and the owner has its text as before and tries once more.
-    Begin(usize, Sight),
     /// Reads into it to the end, of which all bytes are put into one text, with a `!` for each fault.
     ReadAll(usize, &'static str),
     /// A poll for the reader.
@@ -120,36 +118,11 @@ impl<J: Job + Carries<ReadJob<Planned, H>>, H: Runtime> Seen<J, H> {
         None
     }
 
-    // What a poll, a read or a beginning shows, with the bytes at the buffer's front.
-    fn reads<R: AllocGlobal + Print>(
-        &mut self,
-        rt: &R,
-        step: Step,
-        buffer: &mut [u8],
-    ) -> io::Result<Came<Result<usize, IoFault>>> {
+    // What a poll or a read shows, with the bytes at the buffer's front.
+    fn reads(&mut self, step: Step, buffer: &mut [u8]) -> Came<Result<usize, IoFault>> {
         match step {
-            Step::Poll(..) => Ok(self.poll(buffer)),
-            Step::Begin(..) => self.begins(rt, buffer),
-            Step::Read(_, sight) => Ok(self.read_on(buffer, sight.count())),
-            _ => Ok(None),
-        }
-    }
-
-    // Reads from an idle reader, whose session may be refused once.
-    fn begins<R: AllocGlobal + Print>(
-        &mut self,
-        rt: &R,
-        buffer: &mut [u8],
-    ) -> io::Result<Came<Result<usize, IoFault>>> {
-        let came = self.read(buffer);
-        let Some(Poll::Ready(Err(Fault::Refused(why)))) = &came else {
-            return Ok(came);
-        };
-        println!(rt; "refused: {why}")?;
-        if self.says(rt.alloc(), "Unblock { io: 0 }")? {
-            Ok(self.read(buffer))
-        } else {
-            Ok(None)
+            Step::Read(_, sight) => self.read_on(buffer, sight.count()),
+            _ => self.poll(buffer),
         }
     }
 
@@ -242,7 +215,7 @@ struct Scene<J: Job, H: Runtime> {
     owners: Vec<Seen<J, H>>,
 }
 
-impl<J: Job + Carries<ReadJob<Planned, H>>, H: Runtime + RandomSource + Print> Scene<J, H> {
+impl<J: Job + Carries<ReadJob<Planned, H>>, H: Runtime + RandomSource> Scene<J, H> {
     // One more owner. No capacity is the default.
     fn begin(&mut self, capacity: usize, plan: &'static [Given]) -> io::Result<()> {
         let mock = MockTask::new(&self.rt)?;
@@ -272,9 +245,9 @@ impl<J: Job + Carries<ReadJob<Planned, H>>, H: Runtime + RandomSource + Print> S
             return Ok(false);
         };
         match step {
-            Step::Poll(size, sight) | Step::Read(size, sight) | Step::Begin(size, sight) => {
+            Step::Poll(size, sight) | Step::Read(size, sight) => {
                 let mut buffer = vec![in alloc; 0u8; size]?;
-                let came = seen.reads(&self.rt, step, &mut buffer)?;
+                let came = seen.reads(step, &mut buffer);
                 Ok(is_read(came, &buffer, sight))
             }
             Step::ReadAll(size, text) => seen.reads_all(alloc, size, text),
@@ -331,7 +304,7 @@ pub(crate) struct Row {
 }
 
 /// The place of the first step of a scene that shows something else than it must, if there is one.
-pub(crate) fn first_wrong<H: Host + Print>(rt: H, row: &Row) -> io::Result<Option<usize>> {
+pub(crate) fn first_wrong<H: Host>(rt: H, row: &Row) -> io::Result<Option<usize>> {
     let Ok(executor) = Executor::<ReadJob<Planned, H>, H>::new(rt, Some("1")) else {
         return Err(io::Error::from(io::ErrorKind::Other));
     };
@@ -346,7 +319,7 @@ pub(crate) fn first_wrong_in<J, H>(
 ) -> io::Result<Option<usize>>
 where
     J: Job + Carries<ReadJob<Planned, H>>,
-    H: Runtime + RandomSource + Print,
+    H: Runtime + RandomSource,
 {
     let mut scene = Scene {
         rt,

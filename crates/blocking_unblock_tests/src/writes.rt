@@ -1,8 +1,6 @@
 //! The worked rows of writing, on threads, over one executor of one worker whose jobs read or write.
 use self::Sight::{Count, Done, Fails, WritesNone};
-use self::Step::{
-    Begin, BeginRead, Close, Debug, Drop, Flush, Goes, Handle, Holds, Read, Write, WriteAll,
-};
+use self::Step::{Close, Debug, Drop, Flush, Goes, Handle, Holds, Read, Write, WriteAll};
 use crate::both::Both;
 use crate::reader::LOOKS;
 use crate::writer::Taken::{AtMost, Fails as FailsAt};
@@ -25,16 +23,12 @@ use std::{io, thread};
 #[derive(Clone, Copy)]
 pub(crate) enum Step {
     Write(&'static [u8], Sight),
-    /// The same of an idle writer. Where its session is refused, that is printed, and the owner has the handle and tries once more.
-    Begin(&'static [u8], Sight),
     /// Writes until all is taken.
     WriteAll(&'static [u8]),
     Flush(Sight),
     Close(Sight),
     /// Reads into a buffer of this size, and sees exactly these bytes; or sees a fault.
     Read(usize, &'static [u8], Sight),
-    /// The same, where the reading session may be refused once.
-    BeginRead(usize, &'static [u8], Sight),
     /// Asks for the handle, which took so many bytes.
     Handle(usize),
     /// Exactly these bytes were written.
@@ -330,7 +324,7 @@ fn failed(why: IoFault, sight: Sight) -> Came {
 impl<J, H> Scene<J, H>
 where
     J: Job + Carries<ReadJob<PlannedWriter<H>, H>> + Carries<WriteJob<PlannedWriter<H>, H>>,
-    H: Host + Print,
+    H: Host,
 {
     // What a poll shows that doesn't wait. (none where it waits)
     fn poll(&mut self, step: Step, buffer: &mut [u8]) -> Option<Came> {
@@ -350,26 +344,6 @@ where
             }
         }
         Came::Wrong
-    }
-
-    // Calls an owner whose session may be refused once.
-    fn begins(&mut self, step: Step, buffer: &mut [u8]) -> io::Result<bool> {
-        match self.calls(step, buffer) {
-            Came::Refused(why) => {
-                println!(self.rt; "refused: {why}")?;
-                Ok(self.has_handle() && self.calls(step, buffer).is_right())
-            }
-            came => Ok(came.is_right()),
-        }
-    }
-
-    // Whether the handle is with its owner, or is there at once.
-    fn has_handle(&mut self) -> bool {
-        let owner = &mut self.owner;
-        self.mock.enter(|cx| match owner {
-            Some(owner) if !owner.is_closed() => matches!(owner.poll_get_mut(cx), Poll::Ready(_)),
-            _ => false,
-        })
     }
 
     // Writes until all is taken.
@@ -408,15 +382,10 @@ where
             Write(_, _) | Flush(_) | Close(_) | Handle(_) => {
                 Ok(self.calls(step, &mut []).is_right())
             }
-            Begin(_, _) => self.begins(step, &mut []),
             Read(size, bytes, _) => {
                 let mut buffer = vec![in alloc; 0u8; size]?;
                 let came = self.calls(step, &mut buffer);
                 Ok(came.is_right() && buffer.get(..bytes.len()) == Some(bytes))
-            }
-            BeginRead(size, bytes, _) => {
-                let mut buffer = vec![in alloc; 0u8; size]?;
-                Ok(self.begins(step, &mut buffer)? && buffer.get(..bytes.len()) == Some(bytes))
             }
             WriteAll(bytes) => Ok(self.writes_all(bytes)),
             Holds(bytes) => Ok(self.page.holds(&self.rt, bytes)),
@@ -449,14 +418,14 @@ fn polled<J, H>(
 ) -> Option<Came>
 where
     J: Job + Carries<ReadJob<PlannedWriter<H>, H>> + Carries<WriteJob<PlannedWriter<H>, H>>,
-    H: Host + Print,
+    H: Host,
 {
     match step {
         Flush(sight) => done(owner.poll_flush(cx), sight),
         Close(sight) => done(owner.poll_close(cx), sight),
         _ if owner.is_closed() => Some(Came::Wrong),
-        Write(bytes, sight) | Begin(bytes, sight) => counted(owner.poll_write(cx, bytes), sight),
-        Read(_, _, sight) | BeginRead(_, _, sight) => counted(owner.poll_read(cx, buffer), sight),
+        Write(bytes, sight) => counted(owner.poll_write(cx, bytes), sight),
+        Read(_, _, sight) => counted(owner.poll_read(cx, buffer), sight),
         Handle(taken) => match owner.poll_get_mut(cx) {
             Poll::Ready(writer) => Some(Came::if_right(writer.taken() == taken)),
             Poll::Pending => None,
@@ -466,7 +435,7 @@ where
 }
 
 /// The place of the first step of a row that shows something else than it must, if there is one.
-pub(crate) fn first_wrong<H: Host + Print>(rt: H, row: &Row) -> io::Result<Option<usize>> {
+pub(crate) fn first_wrong<H: Host>(rt: H, row: &Row) -> io::Result<Option<usize>> {
     let page = Arc::new(rt.alloc(), Page::new(rt.alloc()))?;
     let writer = PlannedWriter::new(rt, Arc::try_clone(&page)?, row.plan);
     let mock = MockTask::new(&rt)?;

@@ -6,8 +6,8 @@ use Rattle.blocking_laws.specs.declared.event.Moment.{Moment}
 use Rattle.blocking_laws.specs.declared.step.Step.{Step}
 use Rattle.blocking_laws.specs.Behind.{AllWriteBehind}
 use Rattle.blocking_laws.proofs.WrittenBytes.{all_write_behind}
-use Rattle.blocking_parts.specs.Parts.{Parts}
-use Rattle.blocking_parts.specs.Ties.{IsLawful}
+use Rattle.blocking_copiers.specs.Assemblies.{Assembled}
+use Rattle.blocking_copiers.specs.Ties.{IsLawful}
 use Rattle.blocking_world.specs.Runs.{History, Follow, StopsShort}
 
 -- so many of the steps were taken, with these events
@@ -47,7 +47,7 @@ taken_fewer steps count events old new t less =
 
 -- ---- what comes of the laws
 
-module _ (setting : ℕ) (plan : List Bool) (w : Parts) (past : List Moment) (lawful : IsLawful setting plan w past) where
+module _ (setting : ℕ) (plan : List Bool) (w : Assembled) (past : List Moment) (lawful : IsLawful setting plan w past) where
   -- no more of what an owner wrote waits than its pipe holds
   pub behind_now : AllWriteBehind past
   behind_now = all_write_behind setting plan past lawful.legal

@@ -6,17 +6,17 @@ ghost use Rattle.blocking_laws.specs.Growth.{IsPlanned, known_limit};
 ghost use Rattle.blocking_laws.specs.Behind.{AllWriteBehind};
 ghost use Rattle.blocking_laws.specs.Legal.{Legal};
 ghost use Rattle.blocking_laws.specs.Queue.{queue};
-ghost use Rattle.blocking_parts.specs.Moves.{Steps};
+ghost use Rattle.blocking_copiers.specs.Assemblies.{Does};
 ghost use Rattle.blocking_world.specs.Runs.{Adds, StopsShort};
 ghost use Rattle.blocking_laws.specs.Served.{IsServed};
 ghost use Rattle.blocking_laws.specs.Solo.{AreIndependent};
 ghost use Rattle.blocking_laws.specs.Staffed.{IsStaffed, AreAsSeen};
 
 use crate::copies::twin_in;
+use blocking_copiers::Assembly;
 use blocking_crew::{NoStarts, PlannedStarts};
 use blocking_laws::event::{Event, Moment};
 use blocking_laws::step::Step;
-use blocking_parts::Parts;
 use std::alloc::{AllocError, Global};
 use std::marker::{Brand, Model};
 use std::sync::ledger::{Blank, Ledger};
@@ -26,7 +26,7 @@ use std::sync::ledger::{Blank, Ledger};
 /// What was seen is legal at every moment: the type itself keeps it. A world has no `Drop`, since its workers
 /// and owners hold what has to be spent: it ends by [`World::close`].
 pub struct World {
-    parts: Parts,
+    assembly: Assembly,
     plan: Vec<bool>,
     trace: Vec<Moment>,
     alloc: Global,
@@ -36,21 +36,21 @@ impl Model for World {
     ghost use Rattle.std.specs.Prelude.{reverse};
     ghost use Rattle.blocking_crew.specs.Crews.{free_hands, busy_hands};
     ghost use Rattle.blocking_world.specs.Runs.{WorldValue};
-    ghost use Rattle.blocking_parts.specs.Ties.{IsLawful};
+    ghost use Rattle.blocking_copiers.specs.Ties.{IsLawful};
 
     ghost Value = { WorldValue };
 
     ghost view = { λ w. record {
       history = record {
-        setting = w.parts.crew.pool.counts.setting;
+        setting = w.assembly.parts.crew.pool.counts.setting;
         plan = w.plan.items;
         past = reverse w.trace.items;
       };
-      passes = free_hands w.parts.crew.hands;
-      turns = busy_hands w.parts.crew.hands;
+      passes = free_hands w.assembly.parts.crew.hands;
+      turns = busy_hands w.assembly.parts.crew.hands;
     } };
 
-    ghost invariant = { λ w. IsLawful w.parts.crew.pool.counts.setting w.plan.items w.parts
+    ghost invariant = { λ w. IsLawful w.assembly.parts.crew.pool.counts.setting w.plan.items w.assembly
         (reverse w.trace.items) };
 }
 
@@ -75,7 +75,7 @@ impl World {
         ensures legal { Legal result.history.setting result.history.plan result.history.past }
     {
         World {
-            parts: Parts::new(alloc, setting),
+            assembly: Assembly::new(alloc, setting),
             plan,
             trace: Vec::new(alloc),
             alloc,
@@ -90,11 +90,11 @@ impl World {
         }) }
         ensures err { OnErr result (self.new ≡ self.old) }
     {
-        let room = Vec::with_capacity(self.alloc, self.parts.bytes_to_come(step))?;
+        let room = Vec::with_capacity(self.alloc, self.assembly.bytes_to_come(step))?;
         let kept = step.try_clone()?;
         let taken = step.try_clone()?;
         self.trace.reserve(1)?;
-        let event = step_with::<Brand>(&mut self.parts, &self.plan, Blank::new(1), taken)?;
+        let event = step_with::<Brand>(&mut self.assembly, &self.plan, Blank::new(1), taken)?;
         let twin = twin_in(&event, room);
         let _ = self.trace.push(Moment { step: kept, event });
         Ok(twin)
@@ -103,60 +103,60 @@ impl World {
     /// Ends the world: the jobs that are left end as done, and every worker that arrived stops. Takes no memory.
     pub fn close(self) {
         let World {
-            parts,
+            assembly,
             plan: _plan,
             trace: _trace,
             alloc: _,
         } = self;
-        close_with::<Brand>(parts, Blank::new(1));
+        close_with::<Brand>(assembly, Blank::new(1));
     }
 
     /// How many workers were started and haven't stopped, arrived or not.
     pub fn thread_count(&self) -> usize
         ensures { result ≡ workers self.now.history.past }
     {
-        self.parts.crew().pool().thread_count()
+        self.assembly.parts().crew().pool().thread_count()
     }
 
     /// How many of the workers run no job, arrived or not.
     pub fn idle_count(&self) -> usize
         ensures { result ≡ idle self.now.history.past }
     {
-        self.parts.crew().pool().idle_count()
+        self.assembly.parts().crew().pool().idle_count()
     }
 
     /// How many jobs are queued.
     pub fn queue_len(&self) -> usize
         ensures { result ≡ length (queue self.now.history.past) }
     {
-        self.parts.crew().pool().queue_len()
+        self.assembly.parts().crew().pool().queue_len()
     }
 
     /// The limit of workers; None before the first growth, unless it was set.
     pub fn limit(&self) -> Option<usize>
         ensures { result ≡ known_limit self.now.history.setting self.now.history.past }
     {
-        self.parts.crew().pool().limit()
+        self.assembly.parts().crew().pool().limit()
     }
 
     /// Whether the worker of this number has a job whose next action is that job's own to take: the step `Job` has an action.
     pub fn has_job_action(&self, worker: usize) -> bool
         ensures { result ≡ has_action self.now.history.past (step.Job worker) }
     {
-        self.parts.has_job_action(worker)
+        self.assembly.parts().has_job_action(worker)
     }
 
     /// Whether the poll of the owner of this number, from 0, is under way: the step `Own` has an action.
     pub fn poll_under_way(&self, owner: usize) -> bool
         ensures { result ≡ is_poll_under_way owner self.now.history.past }
     {
-        self.parts.polls(owner)
+        self.assembly.parts().polls(owner)
     }
 }
 
 // Takes a step, by the starts of the plan.
 fn step_with<L: Ledger>(
-    parts: &mut Parts,
+    assembly: &mut Assembly,
     plan: &[bool],
     blank: Blank,
     step: Step,
@@ -164,28 +164,28 @@ fn step_with<L: Ledger>(
     requires name { blank.name ≡ L.name }
     requires parts { blank.parts ≡ L.parts }
     requires some { 0 < L.parts }
-    ensures ok { IfOk result (λ e. Steps (IsPlanned plan.now) step parts.old e parts.new) }
-    ensures err { OnErr result (parts.new ≡ parts.old) }
+    ensures ok { IfOk result (λ e. Does (IsPlanned plan.now) step assembly.old e assembly.new) }
+    ensures err { OnErr result (assembly.new ≡ assembly.old) }
 {
     let mut starter = PlannedStarts::<L>::new(plan, blank);
-    parts.step(step, &mut starter)
+    assembly.step(step, &mut starter)
 }
 
-// Ends the parts, by starts that are all refused.
-fn close_with<L: Ledger>(parts: Parts, blank: Blank)
+// Ends the assembly, by starts that are all refused.
+fn close_with<L: Ledger>(assembly: Assembly, blank: Blank)
     requires name { blank.name ≡ L.name }
     requires parts { blank.parts ≡ L.parts }
     requires some { 0 < L.parts }
 {
     let mut starter = NoStarts::<L>::new(blank);
-    parts.close(&mut starter);
+    assembly.close(&mut starter);
 }
 
 /// Takes the steps, one after the other, and answers one event for each.
 ///
 /// Err where there was no room for the world's own lists: the world is then where the steps so far left it. The room for a
 /// step and its event is had before the step acts.
-#[tactic(auto, using(blocking_parts::proofs::laws::Whole::served_now, blocking_parts::proofs::laws::Whole::staffed_now, blocking_parts::proofs::laws::Whole::held_now, crate::proofs::Runs::behind_now))]
+#[tactic(auto, using(blocking_copiers::proofs::Readings::served_now, blocking_copiers::proofs::Readings::staffed_now, blocking_copiers::proofs::Readings::held_now, crate::proofs::Runs::behind_now))]
 pub fn run(alloc: Global, world: &mut World, steps: &[Step]) -> Result<Vec<Event>, AllocError>
     ensures ok { IfOk result
         (λ events. Adds steps.now events.items world.old.history world.new.history) }

@@ -3,7 +3,7 @@ use crate::row::{Place, agree};
 use blocking_core::io::{Fault, Position};
 use blocking_core::pool::{Refusal, Standing, Woke};
 use blocking_laws::bytes::Bytes;
-use blocking_laws::event::{Act, Event, HolderWaker, Party, Reply, WaitEnd};
+use blocking_laws::event::{Act, CopySide, Event, HolderWaker, Party, Reply, WaitEnd};
 use blocking_laws::step::{Answer, HandleCall};
 use std::alloc::{AllocError, Global};
 use std::test::Fail;
@@ -222,6 +222,13 @@ fn texts_of_jobs(rt: HostRuntime) -> Result<(), Fail> {
         (Act::GaveUp(HolderWaker::Absent), "gave up"),
         (Act::GaveUp(HolderWaker::Taken), "gave up wake owner"),
         (Act::HolderWoken, "delivered owner"),
+        (Act::Linked(3), "linked 3"),
+        (
+            Act::Copied(18446744073709551615),
+            "copied 18446744073709551615",
+        ),
+        (Act::CopyFailed(CopySide::Reading), "copy failed reading"),
+        (Act::CopyFailed(CopySide::Writing), "copy failed writing"),
     ];
     for (act, text) in rows {
         shows(rt.alloc(), act, text)?;

@@ -1,7 +1,7 @@
 //! A file that is read line by line. A worker reads ahead, and this thread waits for nothing but what comes next.
 use crate::host::Host;
 use anyhow::Result;
-use blocking::{AsyncRead, AsyncReadExt, Executor, ReadJob, Unblock};
+use blocking::{AsyncRead, AsyncReadExt, Executor, ReadJob, Reader, Unblock};
 use futures::executor::block_on;
 use std::env::Env;
 use std::fs::{File, Files};
@@ -63,9 +63,7 @@ fn show_lines<T: Read + Drop + Send + 'static, H: Host>(rt: H, reader: T) -> Res
         bytes: Vec::new(rt.alloc()),
     };
     let executor: Readers<T, H> = Executor::new(rt, Some("1"))?;
-    let mut reader: Unblock<T, (), ReadJob<T, H>, H> = Unblock::with_capacity(
-        AHEAD, executor, reader,
-    );
+    let mut reader: Reader<T, H> = Unblock::with_capacity(AHEAD, executor, reader);
     for _ in rt.forever() {
         if reader.is_closed() || take_piece(rt, &mut reader, &mut line)? == 0 {
             break;

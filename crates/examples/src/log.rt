@@ -1,7 +1,7 @@
 //! A log that a worker writes. Who logs waits for nothing but room, and a flush means that all lines before it are written.
 use crate::host::Host;
 use anyhow::Result;
-use blocking::{AsyncWrite, AsyncWriteExt, Executor, Unblock, WriteJob};
+use blocking::{AsyncWrite, AsyncWriteExt, Executor, Unblock, WriteJob, Writer};
 use futures::executor::block_on;
 use std::env::Env;
 use std::fs::{File, Files};
@@ -29,9 +29,7 @@ fn flush<A: AsyncWrite, H: Host>(rt: H, log: &mut A) -> Result<()> {
 
 fn log<T: Write + Drop + Send + 'static, H: Host>(rt: H, writer: T) -> Result<()> {
     let executor: Writers<T, H> = Executor::new(rt, Some("1"))?;
-    let mut log: Unblock<T, (), WriteJob<T, H>, H> = Unblock::with_capacity(
-        BEHIND, executor, writer,
-    );
+    let mut log: Writer<T, H> = Unblock::with_capacity(BEHIND, executor, writer);
     for line in LINES {
         if log.is_closed() {
             break;

@@ -1,6 +1,7 @@
 //! Uses of the crate `blocking`: one call here, and more in the modules. What they print is always the same.
 #![tactic(auto)]
 
+mod copying;
 mod folder;
 mod host;
 mod lines;
@@ -12,8 +13,7 @@ mod two_kinds;
 
 use crate::host::Host;
 use anyhow::Result;
-use blocking::{CallJob, Executor, unblock};
-use blocking_core::task::Call;
+use blocking::{Call, CallJob, Executor, unblock};
 use futures::executor::block_on;
 use std::env::Env;
 use std::fs::{File, Files};
@@ -62,5 +62,6 @@ fn more<H: Host + Files<File = File> + Env>(rt: H) -> Result<()> {
     lines::show_file(rt)?;
     records::show_records(rt)?;
     log::show_log(rt)?;
+    copying::show_copy(rt)?;
     refusal::show(rt)
 }

@@ -2,9 +2,8 @@
 use crate::host::Host;
 use anyhow::Result;
 use blocking::{
-    AsyncRead, AsyncReadExt, AsyncSeek, AsyncSeekExt, Executor, ReadJob, Runtime, SeekJob, Unblock,
+    AsyncRead, AsyncReadExt, AsyncSeek, AsyncSeekExt, Executor, Jobs, Reader, Unblock, Unused,
 };
-use blocking_core::pool::{Carries, Job, JobNo, JobStep};
 use futures::executor::block_on;
 use std::env::Env;
 use std::fs::{File, Files};
@@ -17,74 +16,7 @@ const RECORDS: &str = "ash  birchelm  ";
 const LENGTH: usize = 5;
 
 // The executor's jobs: those that read from a handle, and those that move it.
-#[derive(Drop)]
-enum Access<T: Drop, H: Runtime> {
-    Read(ReadJob<T, H>),
-    Seek(SeekJob<T, H>),
-}
-
-impl<T: Read + Seek + Drop, H: Runtime> Job for Access<T, H> {
-    // Another thread may set a session's mark at any time.
-    ghost may_answer = { λ _ _. Unit {0} };
-
-    fn step(&mut self, me: JobNo) -> JobStep {
-        match self {
-            Access::Read(job) => job.step(me),
-            Access::Seek(job) => job.step(me),
-        }
-    }
-
-    fn abandoned(&self) -> bool {
-        match self {
-            Access::Read(job) => job.abandoned(),
-            Access::Seek(job) => job.abandoned(),
-        }
-    }
-}
-
-impl<T: Drop, H: Runtime> Carries<ReadJob<T, H>> for Access<T, H> {
-    ghost use Rattle.std.specs.Prelude.{Some, None, refl};
-    ghost use Rattle.examples.specs.declared.records.Access.TheVariants.{Read, Seek};
-
-    ghost wrapped = { λ job. Read job };
-
-    ghost opened = { elim [ Read job ↦ Some job | Seek job ↦ None ] };
-
-    ghost undoes = { λ job. refl };
-
-    fn wrap(named: ReadJob<T, H>) -> Access<T, H> {
-        Access::Read(named)
-    }
-
-    fn unwrap(self) -> Option<ReadJob<T, H>> {
-        match self {
-            Access::Read(job) => Some(job),
-            Access::Seek(_) => None,
-        }
-    }
-}
-
-impl<T: Drop, H: Runtime> Carries<SeekJob<T, H>> for Access<T, H> {
-    ghost use Rattle.std.specs.Prelude.{Some, None, refl};
-    ghost use Rattle.examples.specs.declared.records.Access.TheVariants.{Read, Seek};
-
-    ghost wrapped = { λ job. Seek job };
-
-    ghost opened = { elim [ Read job ↦ None | Seek job ↦ Some job ] };
-
-    ghost undoes = { λ job. refl };
-
-    fn wrap(named: SeekJob<T, H>) -> Access<T, H> {
-        Access::Seek(named)
-    }
-
-    fn unwrap(self) -> Option<SeekJob<T, H>> {
-        match self {
-            Access::Read(_) => None,
-            Access::Seek(job) => Some(job),
-        }
-    }
-}
+type Access<T, H> = Jobs<H, Unused, T, Unused, Unused, T>;
 
 // Moves a handle to the record with this number, counted from 0.
 fn seek_record<A: AsyncSeek, H: Host>(rt: H, file: &mut A, number: u64) -> Result<()>
@@ -109,7 +41,7 @@ fn show_next<A: AsyncRead, H: Host>(rt: H, file: &mut A, number: u64) -> Result<
 // Prints the record with this number, counted from 0. A handle that is closed has none.
 fn show_record<T: Read + Seek + Drop, H: Host>(
     rt: H,
-    file: &mut Unblock<T, (), Access<T, H>, H>,
+    file: &mut Reader<T, H, Access<T, H>>,
     number: u64,
 ) -> Result<()> {
     if !file.is_closed() {

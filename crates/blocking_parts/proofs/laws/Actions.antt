@@ -3,8 +3,9 @@ use Rattle.std.proofs.Common.{◌≡◌, ℕ, ◌+◌, List, length, Bool, false
 use Rattle.std.proofs.lemmas.Bool.{lt-ltb}
 use Rattle.std.proofs.lemmas.Bool.Decides.{nat_tests}
 use Rattle.std.proofs.lemmas.Option.{slice_get_within}
-use Rattle.blocking_parts.proofs.Types.{Event, Moment, Party, HandleCall, Step, Arrive, Ask, DropOwner, End, Io, Job, Late, OfTask, Own, SetLimit, Stray, Strike, Take, Wait, TaskCall, Hand, Row}
-use Rattle.blocking_parts.proofs.Words.{starts, arrivals, tasks, holder, standing, events, acts_of_task, task_cut, cut, own, acts_of_owner, under_way, is_poll_over, is_there, is_job_action, is_answered_action, is_turn_end, is_for_cancelled, may_call, may_cancel, has_action, hand, hand_at, is_free_hand, HandAs, OwnerAs, Owner, next_of, did, Task, may_be, is_gone_as, CancelAs, TaskAs, may_call_in, rests_in, may_ask_in, may_own, may_own_in, has_action_in, Parts, row_of, let_go_by, Tied}
+use Rattle.blocking_parts.proofs.Types.{Event, Moment, Party, HandleCall, Step, Arrive, Ask, Copy, DropOwner, End, Io, Job, Late, Link, New, OfTask, Own, SetLimit, Spawn, Stray, Strike, Sweep, Take, Wait, TaskCall, Hand, Row}
+use Rattle.blocking_parts.proofs.Words.{starts, arrivals, tasks, holder, standing, events, acts_of_task, task_cut, cut, own, acts_of_owner, under_way, is_poll_over, is_there, is_job_action, is_answered_action, is_turn_end, is_for_cancelled, may_call, may_cancel, has_action, hand, hand_at, is_free_hand, HandAs, OwnerAs, Owner, next_of, did, Task, may_be, is_gone_as, CancelAs, TaskAs, may_call_in, rests_in, may_ask_in, may_own, may_own_in, has_action_in, Parts, row_of, let_go_by, Tied, IsFree}
+use Rattle.blocking_laws.specs.Lent.{copiers, has_owner}
 use Rattle.blocking_laws.specs.Sessions as sessions
 use Rattle.blocking_laws.specs.TaskLaws.{is_gone}
 use Rattle.blocking_lanes.specs.declared.task.TaskStage.{TaskStage}
@@ -46,10 +47,10 @@ owner_may owner seen tie = grind (arith, is_rest, acts_some)
 -- ---- steps
 
 module _ (setting : ℕ) (plan : List Bool) (w : Parts) (past : List Moment) (t : Tied setting plan w past) where
-  asks_by : (h : ℕ) (found : Option Owner) → slice_get w.owners h ≡ found → rests_in found ≡ sessions.rests (acts_of_owner h (events past))
+  pub asks_by : (h : ℕ) (found : Option Owner) → slice_get w.owners h ≡ found → rests_in found ≡ sessions.rests (acts_of_owner h (events past))
   asks_by h found o = grind (arith, unseen, rests_is, owner_tie)
 
-  asked_by : (h : ℕ) (call : HandleCall) (found : Option Owner) → slice_get w.owners h ≡ found
+  pub asked_by : (h : ℕ) (call : HandleCall) (found : Option Owner) → slice_get w.owners h ≡ found
       → may_ask_in found call ≡ sessions.may_ask (acts_of_owner h (events past)) call
   asked_by h call found o = grind (arith, unseen, may_ask_is, owner_tie)
 
@@ -83,21 +84,29 @@ module _ (setting : ℕ) (plan : List Bool) (w : Parts) (past : List Moment) (t 
       by o none = grind arith
   strike_by s (Some row) found = let_go_is setting plan w past t s row found
 
-  -- A step has an action in the parts exactly where it has one by what was seen.
-  pub has_is : (step : Step) → has_action_in w step ≡ has_action past step
-  has_is (Ask h call) = asked_by h call (slice_get w.owners h) refl
-  has_is (Own h) = owns_by h (slice_get w.owners h) refl
-  has_is (DropOwner h) = asks_by h (slice_get w.owners h) refl
-  has_is (OfTask k call) = calls_by k call (slice_get w.tasks k) refl
-  has_is Arrive =
+  -- where an owner isn't lent
+  not_lent : (b : Bool) → b ≡ false → (a : Bool) → a ≡ (a && not b)
+  not_lent b is a = grind arith
+
+  -- A step has an action in the parts exactly where it has one by what was seen, unless it is a copier's, or one at an owner lent to one.
+  pub has_is : (step : Step) → IsFree past step → has_action_in w step ≡ has_action past step
+  has_is (Ask h call) free = asked_by h call (slice_get w.owners h) refl ∙ not_lent (has_owner h (copiers past)) free (sessions.may_ask (acts_of_owner h (events past)) call)
+  has_is (Own h) free = owns_by h (slice_get w.owners h) refl
+  has_is (DropOwner h) free = asks_by h (slice_get w.owners h) refl ∙ not_lent (has_owner h (copiers past)) free (sessions.rests (acts_of_owner h (events past)))
+  has_is (OfTask k call) free = calls_by k call (slice_get w.tasks k) refl
+  has_is Arrive free =
       arrive_by w.crew.pool.counts.arriving (arrivals past) (starts past) t.crewed.tied.counted.arriving_are (nat_lt 0 w.crew.pool.counts.arriving) (nat_lt (arrivals past) (starts past)) refl refl
-  has_is (Take v) = free_by (hand_at w.crew.hands v) (is_there past v) (hand past v) (t.crewed.tied.handed.each v)
-  has_is (Job v) = own_is setting plan w past t v ∙ ap is_job_action (sym (next_agrees setting plan w past t v))
-  has_is (Io v answer) = ap (λ d. is_answered_action d answer) (sym (next_agrees setting plan w past t v))
-  has_is (End v) = ap is_turn_end (sym (next_agrees setting plan w past t v))
-  has_is (Wait v) = free_by (hand_at w.crew.hands v) (is_there past v) (hand past v) (t.crewed.tied.handed.each v)
-  has_is (Late v) = free_by (hand_at w.crew.hands v) (is_there past v) (hand past v) (t.crewed.tied.handed.each v)
-  has_is (SetLimit n) = limit_by n (n == 0) (nat_lt 0 n) refl refl
-  has_is (Stray s) = stray_by s (row_of w.rows s) refl
-  has_is (Strike s) = strike_by s (row_of w.rows s) refl
-  has_is _ = refl
+  has_is (Take v) free = free_by (hand_at w.crew.hands v) (is_there past v) (hand past v) (t.crewed.tied.handed.each v)
+  has_is (Job v) free = own_is setting plan w past t v ∙ ap is_job_action (sym (next_agrees setting plan w past t v))
+  has_is (Io v answer) free = ap (λ d. is_answered_action d answer) (sym (next_agrees setting plan w past t v))
+  has_is (End v) free = ap is_turn_end (sym (next_agrees setting plan w past t v))
+  has_is (Wait v) free = free_by (hand_at w.crew.hands v) (is_there past v) (hand past v) (t.crewed.tied.handed.each v)
+  has_is (Late v) free = free_by (hand_at w.crew.hands v) (is_there past v) (hand past v) (t.crewed.tied.handed.each v)
+  has_is (SetLimit n) free = limit_by n (n == 0) (nat_lt 0 n) refl refl
+  has_is (Stray s) free = stray_by s (row_of w.rows s) refl
+  has_is (Strike s) free = strike_by s (row_of w.rows s) refl
+  has_is (New capacity) free = refl
+  has_is Spawn free = refl
+  has_is Sweep free = refl
+  has_is (Link a b n) free = absurd free
+  has_is (Copy k) free = absurd free

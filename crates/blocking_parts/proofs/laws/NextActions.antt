@@ -9,13 +9,15 @@ use Rattle.blocking_lanes.specs.SessionJobs as jobs
 use Rattle.blocking_parts.specs.Rows.{next_of}
 use Rattle.blocking_parts.specs.declared.row.Core.TheVariants as core
 use Rattle.blocking_lanes.proofs.owners.Actions.{works_some}
+use Rattle.blocking_parts.proofs.rows.SessionJobs.{job_action_is}
 use Rattle.blocking_parts.proofs.ties.Jobs.{its_holder, IsHere, job_here, job_place, hand_job, next_here}
 use Rattle.blocking_parts.proofs.ties.Releases.{owner_there, task_there}
 
 -- ---- what a job does next
 
 job_next : (c : Core) (acts : List Act) → CoreAs c acts → has_given_up acts ≡ false → next_of_job (kind_of c) acts ≡ action_of c
-job_next c acts tie stays = grind arith
+job_next (core.Call k call) acts tie stays = grind arith
+job_next (core.Session h job) acts tie stays = sym (job_action_is job acts (tie stays))
 
 -- and so its worker, by where the job is in its turn
 stage_next : (at : Stage) (c : Core) (acts : List Act) → CoreAs c acts → PlaceAs (Some Running) (turn_of at) (is_at_first c) acts → GaveAs at acts

@@ -1,12 +1,12 @@
 -- What is seen of a move is of its step, as the law of steps has it, with those of owners.
-use Rattle.std.proofs.Common.{◌≡◌, ℕ, ◌+◌, ◌-◌, List, length, Bool, true, false, refl, sym, ap, ◌∙◌, subst, arith, Option, Some, None, if◌then◌else◌, nat_lt, not, ◌==◌, slice_set, is_some, Result}
+use Rattle.std.proofs.Common.{◌≡◌, ℕ, ◌+◌, ◌-◌, List, length, Bool, true, false, refl, sym, ap, ◌∙◌, subst, arith, Option, Some, None, if◌then◌else◌, nat_lt, not, ◌==◌, slice_get, slice_set, is_some, Result}
 use Rattle.std.proofs.lemmas.Bool.Decides.{nat_tests}
-use Rattle.blocking_parts.proofs.Types.{Refusal, Stay, Stop, Act, Arrived, Made, NoAction, Event, Moment, Party, ByOwner, Worker, Answer, Step, Arrive, End, Late, SetLimit, Sweep, Take, Wait, TaskCall, Holds, Held, Parking, OwnerNext, OwnerStage, Core, Row}
-use Rattle.blocking_parts.proofs.Words.{Growth, JobNumber, arrivals, IsPlanned, holder, as_owner, is_of_pool, is_nothing, is_there, is_turn_end, has_action, named, party, job_of, IsBegun, IsOfTask, IsEndOf, Fits, Happens, StepLaw, hand, hand_at, is_free_hand, added_act, parked_act, HandAs, Acts, act_in, Owner, note_at, next_of, Did, did_by, did, Session, Task, task_act, Move, Idles, Makes, Asks, Owns, Lends, Delivers, IsDropped, Begins, Calls, Works, IsAnswered, Parks, Passes, IsWoken, IsStruck, step_by, step_of, rows_after, may_call_in, rests_in, may_ask_in, may_own, may_own_in, has_action_in, is_pass, IsDue, May, CrewMoves, Parts, row_of, owner_by, owner_of, done_in, let_go_by, party_of, owner_in, core_after_answer, moment, Tied}
+use Rattle.blocking_parts.proofs.Types.{Refusal, Stay, Stop, Act, Arrived, Asked, Made, NoAction, Event, Moment, Party, ByOwner, Worker, Answer, Step, Arrive, Ask, Copy, End, Late, SetLimit, Sweep, Take, Wait, TaskCall, Holds, Held, Parking, OwnerNext, OwnerStage, Core, Row}
+use Rattle.blocking_parts.proofs.Words.{Growth, JobNumber, arrivals, IsPlanned, holder, as_owner, is_of_pool, is_nothing, is_there, is_turn_end, has_action, named, party, job_of, IsBegun, IsOfTask, IsEndOf, Fits, Happens, StepLaw, hand, hand_at, is_free_hand, added_act, parked_act, HandAs, Acts, act_in, Owner, note_at, next_of, Did, did_by, did, Session, Task, task_act, Move, Idles, Makes, Asks, Owns, Lends, Delivers, IsDropped, Begins, Calls, Works, IsAnswered, Parks, Passes, IsWoken, IsStruck, Notes, step_by, step_of, rows_after, may_call_in, rests_in, may_ask_in, may_own, may_own_in, has_action_in, is_pass, IsDue, May, CrewMoves, is_own_step, Parts, row_of, owner_by, owner_of, done_in, let_go_by, party_of, owner_in, core_after_answer, moment, Tied, IsFree}
 use Rattle.blocking_laws.specs.Steps as law
 use Rattle.blocking_laws.specs.declared.event.WaitEnd.TheVariants.{Woken, TimedOut}
 use Rattle.blocking_crew.specs.Moves as crew
-use Rattle.blocking_lanes.specs.Owners.{next_at}
+use Rattle.blocking_lanes.specs.Owners.{may_ask, next_at}
 use Rattle.blocking_lanes.specs.declared.owner.OwnerNext.TheVariants as next
 use Rattle.blocking_parts.specs.Rows.{next_of as next_of_core}
 use Rattle.blocking_lanes.proofs.acts.Calls.{call_plainly}
@@ -82,16 +82,16 @@ shown who job act first growth = record { party = refl; owner = refl; job_is = r
 
 module _ (setting : ℕ) (plan : List Bool) (w : Parts) (past : List Moment) (t : Tied setting plan w past) where
   -- where a step has no action in the parts, it has none by what was seen
-  rests : (step : Step) → has_action_in w step ≡ false → has_action past step ≡ false
-  rests step none = sym (has_is setting plan w past t step) ∙ none
+  rests : (step : Step) → IsFree past step → has_action_in w step ≡ false → has_action past step ≡ false
+  rests step free none = sym (has_is setting plan w past t step free) ∙ none
 
   -- what is done at a step that has an action in the parts, by its party and of its job
-  done_so : (step : Step) (who : Party) (job : Option ℕ) (act : Act) (e : Event) → Told who job act e → has_action_in w step ≡ true → is_nothing act ≡ false → Fits past step act → who ≡ party past step → job ≡ job_of past step act
+  done_so : (step : Step) (who : Party) (job : Option ℕ) (act : Act) (e : Event) → Told who job act e → IsFree past step → has_action_in w step ≡ true → is_nothing act ≡ false → Fits past step act → who ≡ party past step → job ≡ job_of past step act
       → IsOfStep past step e
-  done_so step who job act e told has something fits by of =
+  done_so step who job act e told free has something fits by of =
       let some : is_nothing e.act ≡ false = ap is_nothing told.act_is ∙ something in
       record {
-        act = subst (λ b. Happens b past step e.act) (sym (sym (has_is setting plan w past t step) ∙ has)) (some, subst (Fits past step) (sym told.act_is) fits);
+        act = subst (λ b. Happens b past step e.act) (sym (sym (has_is setting plan w past t step free) ∙ has)) (some, subst (Fits past step) (sym told.act_is) fits);
         by = told.party ∙ by ∙ sym (ap (λ b. if b then named step else party past step) some);
         of = told.job_is ∙ of ∙ ap (job_of past step) (sym told.act_is) ∙ sym (ap (λ b. if b then None else job_of past step e.act) some);
       }
@@ -111,28 +111,28 @@ module _ (setting : ℕ) (plan : List Bool) (w : Parts) (past : List Moment) (t 
       let has : nat_lt 0 w.crew.pool.counts.arriving ≡ true = grind (arith, nat_tests) in
       let many = t.crewed.tied.counted.hands_are in
       let next : length w.crew.hands + 1 ≡ 1 + arrivals past = omega (arith, many) in
-      done_so Arrive _ _ _ _ (shown _ _ _ _ _) has refl (ap Arrived next) (ap Worker next) refl
+      done_so Arrive _ _ _ _ (shown _ _ _ _ _) tt has refl (ap Arrived next) (ap Worker next) refl
   passes_so (crew.TakesJob v old true turn ticket growth pool) may pass is_due =
-      done_so (Take v) _ _ _ _ (shown _ _ _ _ _) (ap is_free_hand may.0) refl refl refl refl
+      done_so (Take v) _ _ _ _ (shown _ _ _ _ _) tt (ap is_free_hand may.0) refl refl refl refl
   passes_so (crew.TakesJob v old false turn ticket growth pool) may pass is_due =
-      done_so (Take v) _ _ _ _ (shown _ _ _ _ _) (ap is_free_hand may.0) refl refl refl refl
+      done_so (Take v) _ _ _ _ (shown _ _ _ _ _) tt (ap is_free_hand may.0) refl refl refl refl
   passes_so (crew.TakesNone v old back) may pass is_due =
-      done_so (Take v) _ _ _ _ (shown _ _ _ _ _) (ap is_free_hand may.0) refl refl refl refl
+      done_so (Take v) _ _ _ _ (shown _ _ _ _ _) tt (ap is_free_hand may.0) refl refl refl refl
   passes_so (crew.EndsTurn v held back) may pass is_due =
-      done_so (End v) _ _ _ _ (shown _ _ _ _ _) is_due.0 refl (sym (in_hand_is v held may.0)) refl (in_hand_is v held may.0)
+      done_so (End v) _ _ _ _ (shown _ _ _ _ _) tt is_due.0 refl (sym (in_hand_is v held may.0)) refl (in_hand_is v held may.0)
   passes_so (crew.HasWaited v old Woken (Stay back) growth pool) may pass is_due =
-      done_so (Wait v) _ _ _ _ (shown _ _ _ _ _) (ap is_free_hand may.0) refl (refl, refl) refl refl
+      done_so (Wait v) _ _ _ _ (shown _ _ _ _ _) tt (ap is_free_hand may.0) refl (refl, refl) refl refl
   passes_so (crew.HasWaited v old Woken Stop growth pool) may pass is_due =
-      done_so (Wait v) _ _ _ _ (shown _ _ _ _ _) (ap is_free_hand may.0) refl (refl, refl) refl refl
+      done_so (Wait v) _ _ _ _ (shown _ _ _ _ _) tt (ap is_free_hand may.0) refl (refl, refl) refl refl
   passes_so (crew.HasWaited v old TimedOut (Stay back) growth pool) may pass is_due =
-      done_so (Late v) _ _ _ _ (shown _ _ _ _ _) (ap is_free_hand may.0) refl (refl, refl) refl refl
+      done_so (Late v) _ _ _ _ (shown _ _ _ _ _) tt (ap is_free_hand may.0) refl (refl, refl) refl refl
   passes_so (crew.HasWaited v old TimedOut Stop growth pool) may pass is_due =
-      done_so (Late v) _ _ _ _ (shown _ _ _ _ _) (ap is_free_hand may.0) refl (refl, refl) refl refl
+      done_so (Late v) _ _ _ _ (shown _ _ _ _ _) tt (ap is_free_hand may.0) refl (refl, refl) refl refl
   passes_so (crew.SetsLimit n) may pass is_due =
       let has : not (n == 0) ≡ true = grind (arith, nat_tests) in
-      done_so (SetLimit n) _ _ _ _ (shown _ _ _ _ _) has refl refl refl refl
+      done_so (SetLimit n) _ _ _ _ (shown _ _ _ _ _) tt has refl refl refl refl
   passes_so (crew.Sweeps growth pool) may pass is_due =
-      done_so Sweep _ _ _ _ (shown _ _ _ _ _) refl refl tt refl refl
+      done_so Sweep _ _ _ _ (shown _ _ _ _ _) tt refl refl tt refl refl
   passes_so _ may pass is_due = absurd cc
 
   -- the owner of a job, by its row, is the one that holds it
@@ -149,40 +149,46 @@ module _ (setting : ℕ) (plan : List Bool) (w : Parts) (past : List Moment) (t 
       by (Some row) found = owner_holds row.core ∙ sym (ap as_owner (t.rowed.each s row found).held_by)
 
   -- what is seen of a move is of its step
-  step_so : (move : Move) (e : Event) (new : Parts) → May w move → CrewMoves (IsPlanned plan) move w e new → SaidBy w move e → IsOfStep past (step_of move) e
-  step_so (Idles step) e new may does told = idle_so past step e told (rests step may)
-  step_so (Makes capacity) e new may does told = done_so _ _ _ _ e told refl refl (ap (λ h. Made h capacity) t.owned.count) (ap ByOwner t.owned.count) refl
-  step_so (Asks h call owner) e new may does told = done_so _ _ _ _ e told (ap (λ o. may_ask_in o call) may.0 ∙ may.1) refl refl refl refl
-  step_so (Owns h owner done) e new may does told =
+  step_so : (move : Move) (e : Event) (new : Parts) → is_own_step move ≡ true → IsFree past (step_of move) → May w move → CrewMoves (IsPlanned plan) move w e new → SaidBy w move e → IsOfStep past (step_of move) e
+  step_so (Idles step) e new own free may does told = idle_so past step e told (rests step free may)
+  step_so (Makes capacity) e new own free may does told = done_so _ _ _ _ e told free refl refl (ap (λ h. Made h capacity) t.owned.count) (ap ByOwner t.owned.count) refl
+  step_so (Asks (Ask g other) h call owner) e new own free may does told =
+      let same = may.1.1.0 in
+      let one = may.1.1.1 in
+      done_so (Ask g other) _ _ _ e told free (ap (λ n. may_ask_in (slice_get w.owners n) other) same ∙ ap (λ o. may_ask_in o other) may.0 ∙ ap (may_ask owner) one ∙ may.1.0) refl (ap Asked (sym one)) (ap ByOwner (sym same)) refl
+  step_so (Asks (Copy k) h call owner) e new own free may does told = absurd cc
+  step_so (Asks step h call owner) e new own free may does told = absurd may.1.1
+  step_so (Notes step who act) e new own free may does told = absurd cc
+  step_so (Owns h owner done) e new own free may does told =
       let plain = plain_of Acts owner done.act (ap act_in may.1) in
-      done_so _ _ _ _ e told (ap may_own_in may.0 ∙ owner_acts owner done may.1) plain.nothing plain.pool refl refl
-  step_so (Lends h owner added) e new may does told = done_so _ _ _ _ e told (ap may_own_in may.0 ∙ ap (λ n. may_own n (did owner)) may.1) (begun_fits added).0 (lent_fits added) refl refl
-  step_so (Delivers h owner number) e new may does told =
-      done_so _ _ _ _ e told.1 (ap may_own_in may.0 ∙ ap (λ n. may_own n (did owner)) (noted_next owner.stage owner.session number may.1)) refl refl refl refl
-  step_so (IsDropped h owner) e new may does told = done_so _ _ _ _ e told (ap rests_in may.0 ∙ may.1) refl refl refl refl
-  step_so (Begins added) e new may does told = done_so _ _ _ _ e told refl (begun_fits added).0 (begun_fits added).1 refl refl
-  step_so (Calls k call task) e new may does told = done_so _ _ _ _ e told (ap (λ o. may_call_in o call) may.0 ∙ may.1) (call_plainly call task) (call_fits call task) refl refl
-  step_so (Works v job done) e new may does told =
+      done_so _ _ _ _ e told free (ap may_own_in may.0 ∙ owner_acts owner done may.1) plain.nothing plain.pool refl refl
+  step_so (Lends h owner added) e new own free may does told = done_so _ _ _ _ e told free (ap may_own_in may.0 ∙ ap (λ n. may_own n (did owner)) may.1) (begun_fits added).0 (lent_fits added) refl refl
+  step_so (Delivers h owner number) e new own free may does told =
+      done_so _ _ _ _ e told.1 free (ap may_own_in may.0 ∙ ap (λ n. may_own n (did owner)) (noted_next owner.stage owner.session number may.1)) refl refl refl refl
+  step_so (IsDropped h owner) e new own free may does told = done_so _ _ _ _ e told free (ap rests_in may.0 ∙ may.1) refl refl refl refl
+  step_so (Begins added) e new own free may does told = done_so _ _ _ _ e told free refl (begun_fits added).0 (begun_fits added).1 refl refl
+  step_so (Calls k call task) e new own free may does told = done_so _ _ _ _ e told free (ap (λ o. may_call_in o call) may.0 ∙ may.1) (call_plainly call task) (call_fits call task) refl refl
+  step_so (Works v job done) e new own free may does told =
       let own = own_act job.held.stage job.row.core w.tasks w.owners done may.1 in
-      done_so _ _ _ _ e told (ap (λ o. is_some (done_in w o)) may.0 ∙ ap is_some may.1) own.nothing (own.pool, own.unasked) refl (in_hand_is v job.held (job_here w v job may.0).holds)
-  step_so (IsAnswered v job answer) e new may does told = done_so _ _ _ _ e told may.1 refl refl refl (in_hand_is v job.held (job_here w v job may.0).holds)
-  step_so (Parks v job) e new may does told =
+      done_so _ _ _ _ e told free (ap (λ o. is_some (done_in w o)) may.0 ∙ ap is_some may.1) own.nothing (own.pool, own.unasked) refl (in_hand_is v job.held (job_here w v job may.0).holds)
+  step_so (IsAnswered v job answer) e new own free may does told = done_so _ _ _ _ e told free may.1 refl refl refl (in_hand_is v job.held (job_here w v job may.0).holds)
+  step_so (Parks v job) e new own free may does told =
       let here = job_here w v job may.0 in
       let fits = park_fits told.0 job.held.turn.serial (hand past v) (sym (in_hand_is v job.held here.holds)) in
-      done_so _ _ _ _ e told.1 (ap is_turn_end (next_here w v job here ∙ ap (λ at. next_of_core at job.row.core) may.1)) fits.0 fits.1 refl (in_hand_is v job.held here.holds)
-  step_so (Passes call) e new may does told =
+      done_so _ _ _ _ e told.1 free (ap is_turn_end (next_here w v job here ∙ ap (λ at. next_of_core at job.row.core) may.1)) fits.0 fits.1 refl (in_hand_is v job.held here.holds)
+  step_so (Passes call) e new own free may does told =
       subst (λ (c : crew.Call). IsOfStep past (step_by c) e) (sym does.call_is)
       (subst (IsOfStep past (step_by (crew.call_of does.move))) (sym does.event_is) (passes_so does.move does.may (ap is_pass (sym does.call_is) ∙ may.0) (subst (IsDue w) does.call_is may.1)))
-  step_so (IsWoken s row) e new may does told = done_so _ _ _ _ e told.1 (ap is_some may) refl (t.rowed.each s row may).serial refl refl
-  step_so (IsStruck s row) e new may does told = done_so _ _ _ _ e told.1 (ap (let_go_by w) may.0 ∙ may.1) refl (t.rowed.each s row may.0).serial refl refl
+  step_so (IsWoken s row) e new own free may does told = done_so _ _ _ _ e told.1 free (ap is_some may) refl (t.rowed.each s row may).serial refl refl
+  step_so (IsStruck s row) e new own free may does told = done_so _ _ _ _ e told.1 free (ap (let_go_by w) may.0 ∙ may.1) refl (t.rowed.each s row may.0).serial refl refl
 
   -- the job that is seen is the same owner's after the move
   owner_stays : (move : Move) (e : Event) (new : Parts) → May w move → SaidBy w move e → new.rows ≡ rows_after w move → owner_of new.rows e.job ≡ owner_of w.rows e.job
   owner_stays move e new may told rows = grind (arith, set_stays, job_here, same_owner, answer_stays)
 
   -- A move keeps the law of steps.
-  pub step_law : (move : Move) (e : Event) (new : Parts) → May w move → CrewMoves (IsPlanned plan) move w e new → new.rows ≡ rows_after w move → StepLaw past (moment new (step_of move) e)
-  step_law move e new may does rows =
+  pub step_law : (move : Move) (e : Event) (new : Parts) → is_own_step move ≡ true → IsFree past (step_of move) → May w move → CrewMoves (IsPlanned plan) move w e new → new.rows ≡ rows_after w move → StepLaw past (moment new (step_of move) e)
+  step_law move e new own free may does rows =
       let told = said plan w move e new may does in
-      let so = step_so move e new may does told in
+      let so = step_so move e new own free may does told in
       record { act = so.act; by = so.by; of = so.of; owned = owner_stays move e new may told rows ∙ owner_known e.job }

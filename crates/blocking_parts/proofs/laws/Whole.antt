@@ -1,7 +1,7 @@
 -- Each move keeps the ties and the laws: so all parts are lawful.
-use Rattle.std.proofs.Common.{◌≡◌, ◌<◌, ◌≤◌, ℕ, List, [], ◌∷◌, length, Bool, true, refl, sym, ap, subst, arith, Option, Some, None, ◌||◌, not, is_some, slice_get, Ok}
-use Rattle.blocking_parts.proofs.Types.{Event, Moment, Step, Job, Holds, Held, OwnerNext, Row}
-use Rattle.blocking_parts.proofs.Words.{IsPlanned, standing, events, is_nothing, acts_of_owner, under_way, is_poll_over, is_job_action, has_action, named, Crew, hand_at, free_hands, busy_hands, next_start, nothing, is_aside, IsNumberOf, CrewHolds, IsAsked, IsAside, bytes_of, bytes_to_come, is_busy, polls_in, Move, Idles, Lends, Begins, Works, IsAnswered, step_of, call_of, rows_after, tasks_after, owners_after, May, CrewMoves, Moves, Steps, Parts, row_of, owner_of, next_at, Rowed, moment, Tied, IsLawful}
+use Rattle.std.proofs.Common.{◌≡◌, ◌<◌, ◌≤◌, ℕ, List, [], ◌∷◌, length, Bool, true, refl, sym, ap, ◌∙◌, subst, arith, Option, Some, None, ◌||◌, not, is_some, slice_get, Ok}
+use Rattle.blocking_parts.proofs.Types.{Act, Event, Moment, Party, Step, Job, Holds, Held, OwnerNext, Row}
+use Rattle.blocking_parts.proofs.Words.{IsPlanned, standing, events, is_nothing, acts_of_owner, under_way, is_poll_over, is_job_action, has_action, named, Crew, hand_at, free_hands, busy_hands, next_start, nothing, is_aside, IsNumberOf, CrewHolds, IsAsked, IsAside, bytes_of, bytes_to_come, is_busy, polls_in, Move, Idles, Lends, Begins, Works, IsAnswered, step_of, call_of, rows_after, tasks_after, owners_after, May, CrewMoves, NeverAsked, Moves, CopierMoves, Steps, Parts, row_of, owner_of, next_at, Rowed, moment, Tied, IsFree, IsLawful, StepLaw}
 use Rattle.blocking_pool.specs.Limits.{limit_of_setting}
 use Rattle.blocking_pool.specs.Pools.{empty_pool}
 use Rattle.blocking_laws.specs.Served.{IsServed}
@@ -17,6 +17,7 @@ use Rattle.blocking_parts.proofs.laws.OwnerWakes.{no_lost_owner_wake}
 use Rattle.blocking_parts.proofs.laws.Steps.{step_law}
 use Rattle.blocking_parts.proofs.laws.Wakes.{no_lost_wake}
 use Rattle.blocking_parts.proofs.moves.Bytes as bytes
+use Rattle.blocking_parts.proofs.moves.Steps.{crew_more}
 use Rattle.blocking_parts.proofs.rows.JobMoves.{rows_worked, rows_answered}
 use Rattle.blocking_parts.proofs.rows.NewJobs.{rows_begun, rows_lent}
 use Rattle.blocking_parts.proofs.rows.OtherMoves.{rows_stay}
@@ -113,7 +114,6 @@ module _ (setting : ℕ) (plan : List Bool) (w : Parts) (past : List Moment) (la
       record {
         tied = tied;
         legal = record {
-          steps = (step_law setting plan w past t move e new may does rows, lawful.legal.steps);
           pool = c.holds.laws;
           owners = of_owners.laws;
           tasks = of_tasks.laws;
@@ -126,12 +126,41 @@ module _ (setting : ℕ) (plan : List Bool) (w : Parts) (past : List Moment) (la
         holding = holding setting new.crew (moment new (step_of move) e ∷ past) c.holds.tied;
       }
 
+-- a crew that asks no starter does as it may by any plan
+more_crew : (plan : List Bool) (w new : Parts) (e : Event) (move : Move) → CrewMoves NeverAsked move w e new → CrewMoves (IsPlanned plan) move w e new
+more_crew plan w new e move does = crew_more (IsPlanned plan) NeverAsked (λ n b never. absurd never) w e new move does
+
+-- what is of no job is told with no owner
+unowned : (new : Parts) (step : Step) (e : Event) → e.job ≡ None → e.owner ≡ None → moment new step e ≡ record { step = step; event = e }
+unowned new step e jobless ownerless =
+    ap (λ (f : Event). record { step = step; event = f })
+    (ap (λ o. record e { owner = owner_of new.rows o }) jobless ∙ sym (ap (λ o. record e { owner = o }) ownerless))
+
 module _ (setting : ℕ) (plan : List Bool) (w : Parts) (past : List Moment) (lawful : IsLawful setting plan w past) where
   -- The move of a step keeps the parts lawful, with the owner that the event names.
   lawful_moved : (new : Parts) (e : Event) (step : Step) → Moves (IsPlanned plan) step w e new → IsLawful setting plan new (moment new step e ∷ past)
   lawful_moved new e step m =
       subst (λ taken. IsLawful setting plan new (moment new taken e ∷ past)) (sym m.step_is)
       (lawful_after setting plan w past lawful new e m.move m.may m.crew m.rows_are m.tasks_are m.owners_are)
+
+  -- So does that of a copier's step, and what is only told,
+  pub copier_lawful : (new : Parts) (e : Event) (step : Step) (who : Party) (act : Act) → CopierMoves step who act w e new → IsLawful setting plan new (record { step = step; event = e } ∷ past)
+  copier_lawful new e step who act m =
+      subst (λ now. IsLawful setting plan new (now ∷ past)) (unowned new step e m.jobless m.ownerless)
+      (subst (λ taken. IsLawful setting plan new (moment new taken e ∷ past)) (sym m.step_is)
+      (lawful_after setting plan w past lawful new e m.move m.may (more_crew plan w new e m.move m.crew) m.rows_are m.tasks_are m.owners_are))
+
+  -- and leaves the setting.
+  pub copier_setting : (new : Parts) (e : Event) (step : Step) (who : Party) (act : Act) → CopierMoves step who act w e new → new.crew.pool.counts.setting ≡ setting
+  copier_setting new e step who act m = (copier_lawful new e step who act m).tied.crewed.tied.counted.setting_is
+
+  -- A step of its own keeps the law of steps, where it asks and drops no owner that is lent.
+  pub step_keeps : (new : Parts) (e : Event) (step : Step) → Steps (IsPlanned plan) step w e new → IsFree past step → StepLaw past (record { step = step; event = e })
+  step_keeps new e step steps free =
+      let m = steps.moves in
+      subst (λ (f : Event). StepLaw past (record { step = step; event = f })) (sym steps.owned)
+      (subst (λ taken. StepLaw past (moment new taken steps.event)) (sym m.step_is)
+      (step_law setting plan w past lawful.tied m.move steps.event new m.its_own (subst (IsFree past) m.step_is free) m.may m.crew m.rows_are))
 
   -- A step keeps the parts lawful,
   pub stays_lawful : (new : Parts) (e : Event) (step : Step) → Steps (IsPlanned plan) step w e new
@@ -189,7 +218,6 @@ begins_lawful setting plan positive = record {
     crossed = λ h s owner found held left. absurd cc;
   };
   legal = record {
-    steps = tt;
     pool = tt;
     owners = λ h. tt;
     tasks = λ k s held. tt;

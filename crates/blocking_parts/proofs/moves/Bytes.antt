@@ -3,7 +3,7 @@ use Rattle.std.proofs.Common.{◌≡◌, ◌≤◌, ℕ, List, [], ◌∷◌, le
 use Rattle.std.proofs.lemmas.Bool.Decides.{nat_tests}
 use Rattle.std.proofs.lemmas.List.{length-take}
 use Rattle.blocking_parts.proofs.Types.{Action, Refusal, Act, Event, Step, Stage, Parking, Core}
-use Rattle.blocking_parts.proofs.Words.{OwnerMachine, Met, drain, JobNumber, is_bare, IsPlanned, added_act, parked_act, act_of_work, Owner, front_in, next_of, bytes_in, Did, drain_did, receive_did, fill_did, did, Worked, worked, Session, Task, bytes_of, front_at, front_for, bytes_to_come, Move, step_of, May, CrewMoves, Moves, Parts, call_step_by, call_step, session_step, Done, call_done, session_seen, session_done}
+use Rattle.blocking_parts.proofs.Words.{OwnerMachine, Met, drain, JobNumber, is_bare, IsPlanned, added_act, parked_act, act_of_work, Owner, front_in, next_of, bytes_in, Did, drain_did, receive_did, fill_did, did, Worked, worked, Session, Task, bytes_of, front_at, front_for, bytes_to_come, Move, step_of, May, CrewMoves, is_own_step, Moves, Parts, call_step_by, call_step, session_step, Done, call_done, session_seen, session_done}
 use Rattle.blocking_crew.specs.declared.hand.Stage.TheVariants as turn
 use Rattle.blocking_lanes.specs.OwnerSteps as steps
 use Rattle.blocking_parts.specs.Rows as rows
@@ -90,9 +90,9 @@ act_bare act is = grind arith
 bare_told : (act : Act) (e : Event) (n : ℕ) → e.act ≡ act → bytes_of act ≡ [] → length (bytes_of e.act) ≤ n
 bare_told act e n is bare = none_more (bytes_of e.act) n (ap bytes_of is ∙ bare)
 
-carried_by : (plan : List Bool) (w : Parts) (move : Move) (e : Event) (new : Parts) → May w move → CrewMoves (IsPlanned plan) move w e new → length (bytes_of e.act) ≤ bytes_to_come w (step_of move)
-carried_by plan w move e new may does = grind (arith, said, owner_carries, bare_told, added_bare, by_call, front_row, done_carries, parked_bare, none_more, act_bare)
+carried_by : (plan : List Bool) (w : Parts) (move : Move) (e : Event) (new : Parts) → is_own_step move ≡ true → May w move → CrewMoves (IsPlanned plan) move w e new → length (bytes_of e.act) ≤ bytes_to_come w (step_of move)
+carried_by plan w move e new own may does = grind (arith, said, owner_carries, bare_told, added_bare, by_call, front_row, done_carries, parked_bare, none_more, act_bare)
 
 -- The event of a step carries no more bytes than were told before it.
 pub carried : (plan : List Bool) (step : Step) (w : Parts) (e : Event) (new : Parts) → Moves (IsPlanned plan) step w e new → length (bytes_of e.act) ≤ bytes_to_come w step
-carried plan step w e new m = subst (λ s. length (bytes_of e.act) ≤ bytes_to_come w s) (sym m.step_is) (carried_by plan w m.move e new m.may m.crew)
+carried plan step w e new m = subst (λ s. length (bytes_of e.act) ≤ bytes_to_come w s) (sym m.step_is) (carried_by plan w m.move e new m.its_own m.may m.crew)

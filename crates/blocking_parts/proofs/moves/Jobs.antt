@@ -78,6 +78,7 @@ job_acts w v at old core tasks owners act e new is a does = by (done at.stage ol
     by (Some did) some d =
         let same : act ≡ did.act = let seen = d.0 in cc in
         record {
+          its_own = refl;
           move = Works v p.job did;
           step_is = refl;
           may = (p.job_is, sym (done_same w v at is old a.at_row) ∙ some);
@@ -102,6 +103,7 @@ job_rests w v at old core tasks owners e is a event = by (done at.stage old.core
     by (Some did) some d = let seen = d.0 in absurd cc
     by None none d =
         record {
+          its_own = refl;
           move = Idles (Job v);
           step_is = refl;
           may = ap (λ o. is_some (done_in w o)) p.job_is ∙ ap is_some (sym (done_same w v at is old a.at_row) ∙ none);
@@ -119,6 +121,7 @@ pub io_does : (w : Parts) (v : ℕ) (answer : Answer) (at : JobAt) (old : Row) (
 io_does w v answer at old core e new is value answers core_is does =
     let p = placed w v at is in
     record {
+      its_own = refl;
       move = IsAnswered v p.job answer;
       step_is = refl;
       may = (p.job_is, ap (λ next. is_answered_action next answer) (next_placed w v at is old value) ∙ answers);
@@ -136,6 +139,7 @@ parked w v at old mark e new is value waits mark_is does =
     let p = placed w v at is in
     let same : mark ≡ let_go_of w p.job.row.core = mark_is ∙ ap (λ (r : Row). let_go_of w r.core) (sym (row_read w v at is old value)) in
     record {
+      its_own = refl;
       move = Parks v p.job;
       step_is = refl;
       may = (p.job_is, sym (ap (λ (q : JobAt). q.stage) p.at_is) ∙ waits);

@@ -1,7 +1,7 @@
 -- What an event leaves of the marks: whose job may be cancelled after it, and which jobs are marked, by what it owes to them.
 use Rattle.std.proofs.Common.{◌≡◌, ◌⊎◌, ⊎_elim, ℕ, List, ◌∷◌, Bool, true, false, refl, Option, Some, if◌then◌else◌, arith}
 use Rattle.std.proofs.lemmas.Bool.{or_right, or_parts}
-use Rattle.blocking_parts.proofs.Types.{Act, HolderDropped, Moment, Party, ByOwner}
+use Rattle.blocking_parts.proofs.Types.{Act, HolderDropped, Moment, Party, ByOwner, ByTask}
 use Rattle.blocking_parts.proofs.Words.{accepts, newcomer, holder, is_holder, cancels, ends_for_good, has_ended, lets_go, is_marked, is_to_drop, PoolLaw, EachMayFollow, may_cancel, Marked}
 use Rattle.blocking_crew.proofs.ties.Acts.{by_let_go}
 use Rattle.blocking_parts.proofs.past.Drops.{drop_by, cancel_stays}
@@ -17,7 +17,9 @@ lets_none_in act s lets = by_let_go (λ a. accepts s a ≡ false) refl refl act 
 -- who may after an event might before it, or lets go by it
 cancel_by : (past : List Moment) (now : Moment) (who : Option Party) → may_cancel who (now ∷ past) ≡ true
     → (may_cancel who past ≡ true) ⊎ ((lets_go now.event.act ≡ true) × (is_holder who now.event.party ≡ true))
-cancel_by past now who may = grind arith
+cancel_by past now (Some (ByOwner h)) may = grind arith
+cancel_by past now (Some (ByTask k)) may = grind arith
+cancel_by past now _ may = absurd cc
 
 -- ---- what an event owes to the marks
 

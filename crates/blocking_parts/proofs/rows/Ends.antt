@@ -5,7 +5,8 @@ use Rattle.blocking_parts.proofs.Types.{Action, Running, Act, Answered, Drained,
 use Rattle.blocking_parts.proofs.Words.{IsPlanned, Kind, Calling, JobAction, Over, next_after_answer, next_but_wake, wake_first, is_over, has_finished, ends_for_good, events, acts_of, next_in_turn, is_turn_end, GoesOn, Crew, may_end, hand_at, turn_of, RanAs, JobAs, is_pass, IsDue, Parts, call_action, is_at_first, CoreAs, PlaceAs, Tied}
 use Rattle.blocking_laws.specs.JobTable.{after_put}
 use Rattle.blocking_crew.specs.Moves as crew
-use Rattle.blocking_lanes.specs.SessionJobs.{action_of}
+use Rattle.blocking_lanes.specs.Reads.{has_waker}
+use Rattle.blocking_lanes.specs.SessionJobs.{action_of, kind_of}
 use Rattle.blocking_parts.specs.Rows.{next_of}
 use Rattle.blocking_parts.proofs.rows.Places.{IsOver}
 use Rattle.blocking_parts.proofs.rows.SessionJobs.{job_action_is, next_by}
@@ -52,7 +53,10 @@ none_to_wake waker next is = grind arith
 
 -- the job of a session whose turn ends while it goes on is over
 session_over : (job : SessionJob) (acts : List Act) → is_turn_end (next_in_turn GoesOn (action_of job)) ≡ true → JobAs job acts → IsOver acts
-session_over job acts ends so = grind (arith, job_action_is, next_by, table_over, none_to_wake, end_over)
+session_over job acts ends so =
+    let kind = kind_of job in
+    table_over kind acts
+    (none_to_wake (has_waker acts) (next_but_wake kind acts) (sym (ap is_over (next_by kind acts)) ∙ sym (ap is_over (job_action_is job acts so)) ∙ end_over (action_of job) ends))
 
 -- a job whose turn may end, with nothing left to do, is over
 over_here : (at : Stage) (c : Core) (acts : List Act) → may_end at ≡ true → is_turn_end (next_of at c) ≡ true → CoreAs c acts → PlaceAs (Some Running) (turn_of at) (is_at_first c) acts → IsOver acts

@@ -1,7 +1,7 @@
 -- The moves that leave the rows alone keep what is tied to them.
 use Rattle.std.proofs.Common.{◌≡◌, ⊎_elim, ℕ, List, [], ◌∷◌, Bool, true, false, refl, sym, ap, ◌∙◌, Option, Some, None, slice_get, slice_set, Ok, Err, arith}
 use Rattle.blocking_parts.proofs.Types.{Act, Event, Moment, Party, Holds, Held, Parking, Row}
-use Rattle.blocking_parts.proofs.Words.{JobNumber, IsPlanned, accepted_by, ends_for_good, events, is_of_pool, acts_of, hand_at, IsNumberOf, CrewHolds, act_in, Owner, number_of, Task, task_after_call, Move, Makes, Asks, Owns, Lends, Delivers, IsDropped, Begins, Calls, Works, IsAnswered, Parks, Passes, IsWoken, IsStruck, step_of, call_of, rows_after, tasks_after, owners_after, May, CrewMoves, Parts, row_of, Rowed, moment, Tied}
+use Rattle.blocking_parts.proofs.Words.{JobNumber, IsPlanned, accepted_by, ends_for_good, events, is_of_pool, acts_of, hand_at, IsNumberOf, CrewHolds, act_in, Owner, number_of, Task, task_after_call, Move, Makes, Asks, Owns, Lends, Delivers, IsDropped, Begins, Calls, Works, IsAnswered, Parks, Passes, IsWoken, IsStruck, Notes, step_of, call_of, rows_after, tasks_after, owners_after, May, CrewMoves, Parts, row_of, Rowed, moment, Tied}
 use Rattle.blocking_crew.specs.Moves as crew
 use Rattle.blocking_lanes.specs.OwnerSteps as step
 use Rattle.blocking_lanes.specs.OwnerSteps.{owner_in}
@@ -14,7 +14,7 @@ use Rattle.blocking_parts.proofs.rows.Numbers.{number_stays}
 use Rattle.blocking_parts.proofs.rows.OtherEvents.{KeepsRows, rows_kept}
 use Rattle.blocking_parts.proofs.rows.Places.{IsOver}
 use Rattle.blocking_parts.proofs.ties.CrewEvents.{Told}
-use Rattle.blocking_parts.proofs.ties.Events.{SaidBy, said, is_work, no_work}
+use Rattle.blocking_parts.proofs.ties.Events.{SaidBy, said, is_work, no_work, note_is}
 use Rattle.blocking_parts.proofs.ties.Hands.{IsOldOrBegins, leaves_turns, hands_moved}
 
 -- whether a job acts by a move, or is new
@@ -70,6 +70,7 @@ module _ (setting : ℕ) (plan : List Bool) (w : Parts) (past : List Moment) (t 
   quiet_move (Passes call) may does plain stay = record { none_new = plain.none_new; over = pass_over setting plan w past t call new.crew e may.0 may.1 does }
   quiet_move (IsWoken s row) may does told stay = quiet_by past e _ _ told.1 refl refl
   quiet_move (IsStruck s row) may does told stay = quiet_by past e _ _ told.1 refl refl
+  quiet_move (Notes step who act) may does told stay = let quiet = note_is who act told.1 in quiet_by past e _ _ told.0 quiet.new quiet.pool
   quiet_move _ may does told stay = quiet_by past e _ _ told refl refl
 
 -- ---- what it leaves
@@ -97,7 +98,7 @@ owner_set w h old new there same j owner number found is =
 old_owner : (w : Parts) (move : Move) → May w move → changes_rows move ≡ false → (h : ℕ) (owner : Owner) (number : JobNumber) → slice_get (owners_after w move) h ≡ Some owner → number_of owner ≡ Some number → OldOwner w h number
 old_owner w (Makes capacity) may stay j owner number found is =
     ⊎_elim (λ before. (owner, before, is)) (λ new. let none : number_of owner ≡ None = ap number_of (sym new.1) in absurd cc) (in_pushed w.owners _ j owner found)
-old_owner w (Asks h call old) may stay j owner number found is = owner_set w h old _ may.0 (number_stays (step.IsAsked call) old refl) j owner number found is
+old_owner w (Asks by h call old) may stay j owner number found is = owner_set w h old _ may.0 (number_stays (step.IsAsked call) old refl) j owner number found is
 old_owner w (Owns h old done) may stay j owner number found is =
     owner_set w h old done.owner may.0 (ap (λ o. number_of (owner_in o old)) (sym may.1) ∙ number_stays step.Acts old refl) j owner number found is
 old_owner w (Lends h old (Ok new)) may stay j owner number found is = absurd cc

@@ -1,8 +1,8 @@
 -- What is seen of each move: whose it is, of which job, and what.
-use Rattle.std.proofs.Common.{◌≡◌, ⊎_elim, ℕ, List, length, Bool, true, false, refl, sym, ap, ◌∙◌, subst, Option, Some, None, slice_get, Err, arith}
+use Rattle.std.proofs.Common.{◌≡◌, ⊎_elim, ℕ, List, [], length, Bool, true, false, refl, sym, ap, ◌∙◌, subst, Option, Some, None, slice_get, Err, arith}
 use Rattle.std.proofs.lemmas.Bool.{or_parts}
-use Rattle.blocking_parts.proofs.Types.{Woke, Act, Answered, Asked, HolderDropped, JobCancelled, JobWoken, Made, NoAction, Event, ByOwner, Pool, ByTask, Worker, Answer, TaskCall, Holds, Held, Stage, Ticket, Parking, SessionJob, Core}
-use Rattle.blocking_parts.proofs.Words.{IsPlanned, is_some_worker, is_of_job, is_answered_action, named, Crew, may_act, hand_at, added_act, parked_act, Owner, Worked, worked, Task, task_act, Move, Idles, Makes, Asks, Owns, Lends, Delivers, IsDropped, Begins, Calls, Works, IsAnswered, Parks, Passes, IsWoken, IsStruck, task_call, May, CrewMoves, Parts, call_step, session_step, Done, call_done, session_seen, session_done, done}
+use Rattle.blocking_parts.proofs.Types.{Woke, Act, Answered, Asked, HolderDropped, JobCancelled, JobWoken, Made, NoAction, Event, Party, ByOwner, Pool, ByTask, Worker, Answer, TaskCall, Holds, Held, Stage, Ticket, Parking, SessionJob, Core}
+use Rattle.blocking_parts.proofs.Words.{is_bare, accepted_by, cancels, lets_go, is_of_pool, is_aside, IsPlanned, is_some_worker, is_of_job, is_answered_action, named, Crew, may_act, hand_at, added_act, parked_act, Owner, Worked, worked, Task, task_act, Move, Idles, Makes, Asks, Owns, Lends, Delivers, IsDropped, Begins, Calls, Works, IsAnswered, Parks, Passes, IsWoken, IsStruck, Notes, IsNote, task_call, May, CrewMoves, Parts, call_step, session_step, Done, call_done, session_seen, session_done, done}
 use Rattle.blocking_crew.specs.Moves as crew
 use Rattle.blocking_crew.specs.declared.hand.Stage.TheVariants as stage
 use Rattle.blocking_lanes.specs.Calls as calls
@@ -52,7 +52,7 @@ answer_fits at c answer is = grind arith
 abbrev pub SaidBy : Parts → Move → Event → Type 0
 SaidBy w (Idles step) e = Told (named step) None NoAction e
 SaidBy w (Makes capacity) e = Told (ByOwner (length w.owners)) None (Made (length w.owners) capacity) e
-SaidBy w (Asks h call owner) e = Told (ByOwner h) None (Asked call) e
+SaidBy w (Asks step h call owner) e = Told (ByOwner h) None (Asked call) e
 SaidBy w (Owns h owner did) e = Told (ByOwner h) None did.act e
 SaidBy w (Lends h owner added) e = Told (ByOwner h) None (added_act added) e
 SaidBy w (Delivers h owner number) e = (woke : Woke) × Told (ByOwner h) None (JobWoken number.serial woke) e
@@ -65,6 +65,7 @@ SaidBy w (Parks v job) e = (how : Parking) × Told (Worker v) (Some job.held.tur
 SaidBy w (Passes call) e = IsPlain e
 SaidBy w (IsWoken s row) e = (woke : Woke) × Told Pool None (JobWoken row.number.serial woke) e
 SaidBy w (IsStruck s row) e = (woke : Woke) × Told Pool None (JobCancelled row.number.serial woke) e
+SaidBy w (Notes step who act) e = Told who None act e × IsNote who act
 
 call_said : (k : ℕ) (call : TaskCall) (task : Task) (e : Event) → ToldBy (task_call k call task) e → Told (ByTask k) None (task_act call task) e
 call_said k call task e told = grind arith
@@ -99,7 +100,22 @@ said plan w (IsAnswered v job answer) e new may does =
     (works_so (IsPlanned plan) v job.held (Answered answer) w.crew new.crew e here.holds (ap (λ s. may_act s (Answered answer)) runs) does).0
 said plan w (Parks v job) e new may does = parks_so (IsPlanned plan) v job.held _ w.crew new.crew e (job_here w v job may.0).holds may.1 does
 said plan w (Passes call) e new may does = plain (IsPlanned plan) call w.crew new.crew e may.0 does
+said plan w (Notes step who act) e new may does = (told (IsPlanned plan) _ w.crew new.crew e does, may)
 said plan w _ e new may does = told (IsPlanned plan) _ w.crew new.crew e does
+
+-- ---- what is only told
+
+-- What is only told accepts and cancels no job, lets none go, and is nothing to the pool.
+pub record IsIdleAct (act : Act) : Type 0 where
+  pub new : accepted_by act ≡ []
+  pub pool : is_of_pool act ≡ false
+  pub cancelled : (s : ℕ) → cancels act s ≡ false
+  pub kept : lets_go act ≡ false
+  pub aside : is_aside act ≡ true
+  pub bare : is_bare act ≡ true
+
+pub note_is : (who : Party) (act : Act) → IsNote who act → IsIdleAct act
+note_is who act note = grind arith
 
 -- ---- who has a part in it
 
@@ -111,6 +127,7 @@ is_alone (Parks v job) = true
 is_alone (Passes call) = true
 is_alone (IsWoken s row) = true
 is_alone (IsStruck s row) = true
+is_alone (Notes step who act) = true
 is_alone _ = false
 
 -- such a move is seen as nothing to them
@@ -127,6 +144,7 @@ is_work _ = false
 pub no_work : (w : Parts) (move : Move) (e : Event) (s : ℕ) → is_work move ≡ false → SaidBy w move e → is_of_job s e ≡ false
 no_work w (Works v job did) e s is told = absurd cc
 no_work w (IsAnswered v job answer) e s is told = absurd cc
+no_work w (Notes step who act) e s is told = (or_parts _ _ ((alone w (Notes step who act) e refl told).out 0 s)).1
 no_work w (Idles step) e s is told = (or_parts _ _ ((alone w (Idles step) e refl told).out 0 s)).1
 no_work w (Parks v job) e s is told = (or_parts _ _ ((alone w (Parks v job) e refl told).out 0 s)).1
 no_work w (Passes call) e s is plain = (or_parts _ _ (plain.out 0 s)).1

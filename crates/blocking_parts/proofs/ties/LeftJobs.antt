@@ -155,7 +155,7 @@ module _ (setting : ℕ) (plan : List Bool) (w : Parts) (past : List Moment) (t 
     move_met : (move : Move) (e : Event) (new : Parts) → May w move → SaidBy w move e → EachMayFollow (PoolLaw setting plan) (moment new (step_of move) e ∷ past) → is_left (moment new (step_of move) e ∷ past) s ≡ true
         → MetIn (owners_after w move)
     move_met (Makes capacity) e new may told laws later = pushed_met (new_owner capacity)
-    move_met (Asks g call owner) e new may told laws later = set_met g owner _ may.0 (λ same met. asked_met call owner s met)
+    move_met (Asks step g call owner) e new may told laws later = set_met g owner _ may.0 (λ same met. asked_met call owner s met)
     move_met (Owns g owner did) e new may told laws later = set_met g owner did.owner may.0 (λ same met. did_met owner s did may.1 met)
     move_met (Lends g owner (Ok number)) e new may told laws later =
         set_met g owner _ may.0 (λ same met. absurd (none_begins h s owner (ap (slice_get w.owners) (sym same) ∙ may.0) held left may.1))

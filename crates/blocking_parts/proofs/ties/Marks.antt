@@ -1,13 +1,13 @@
 -- Each move keeps the marks: only a job that was let go is marked or cancelled, and one that was let go and isn't over is marked.
 use Rattle.std.proofs.Common.{◌≡◌, ℕ, ◌≤◌, List, [], ◌∷◌, length, Bool, true, false, refl, sym, ap, ◌∙◌, subst, arith, Option, Some, slice_get, Ok}
 use Rattle.blocking_parts.proofs.Types.{Woke, Act, Accepted, HolderDropped, JobCancelled, Event, Moment, ByOwner, ByTask, TaskCall, Stage, Parking, OwnerStage, Row}
-use Rattle.blocking_parts.proofs.Words.{IsPlanned, accepted_by, accepts, tasks, newcomer, holder, cancels, lets_go, events, own, may_cancel, is_let_go, may_act, parked_act, CrewHolds, Owner, is_gone, Did, did, Session, Task, task_act, Move, Owns, Lends, Delivers, IsDropped, Begins, Calls, Works, Parks, Passes, IsWoken, IsStruck, step_of, May, CrewMoves, Parts, row_of, let_go_of, Marked, moment, Tied}
+use Rattle.blocking_parts.proofs.Words.{IsPlanned, accepted_by, accepts, tasks, newcomer, holder, cancels, lets_go, events, own, may_cancel, is_let_go, may_act, parked_act, CrewHolds, Owner, is_gone, Did, did, Session, Task, task_act, Move, Owns, Lends, Delivers, IsDropped, Begins, Calls, Works, Parks, Passes, IsWoken, IsStruck, Notes, step_of, May, CrewMoves, Parts, row_of, let_go_of, Marked, moment, Tied}
 use Rattle.blocking_lanes.specs.Owners.{next_at}
 use Rattle.blocking_lanes.specs.declared.owner.OwnerNext.TheVariants as next
 use Rattle.blocking_lanes.proofs.cuts.Acts.{own_cut}
 use Rattle.blocking_parts.proofs.past.Marks.{KeepsMarks, IsQuiet, quiet_keeps, marks_kept}
 use Rattle.blocking_parts.proofs.ties.CrewEvents.{IsPlain}
-use Rattle.blocking_parts.proofs.ties.Events.{SaidBy, said, done_fits}
+use Rattle.blocking_parts.proofs.ties.Events.{SaidBy, said, done_fits, note_is}
 use Rattle.blocking_parts.proofs.ties.Jobs.{next_free}
 use Rattle.blocking_parts.proofs.ties.Releases.{let_go_is}
 
@@ -96,6 +96,7 @@ module _ (setting : ℕ) (plan : List Bool) (w : Parts) (past : List Moment) (t 
   keeps_marks (Passes call) e new may plain = quiet_keeps past _ (pass_quiet e plain)
   keeps_marks (IsWoken s row) e new may told = told_quiet _ _ told.1.act_is (record { new = λ n. refl; cancelled = λ n. refl; kept = refl })
   keeps_marks (IsStruck s row) e new may told = struck_keeps _ s row told.0 may.0 may.1 told.1.act_is
+  keeps_marks (Notes step who act) e new may told = let quiet = note_is who act told.1 in told_quiet _ act told.0.act_is (record { new = λ s. none_new act s quiet.new; cancelled = quiet.cancelled; kept = quiet.kept })
   keeps_marks _ e new may told = told_quiet _ _ told.act_is (record { new = λ s. refl; cancelled = λ s. refl; kept = refl })
 
   -- A move keeps the marks.

@@ -213,8 +213,8 @@ owners_after_move setting plan w past t laws move e new may does rows owners = b
         (born w.owners past (moment new (step_of (Makes capacity)) e) capacity
         (record { first = e.first; growth = record { started = e.started; refused = e.start_refused }; event_is = seen_is new (ByOwner (length w.owners)) None None (Made (length w.owners) capacity) e told refl })
         (record { tied = t.owned; laws = laws }))
-    by (Asks h call owner) may does rows is told =
-        takes setting plan w past t laws new _ e (lanes.IsAsked call) h 0 0 owner (Asked call) may.0 tt tt may.1 refl (seen_is new (ByOwner h) None None (Asked call) e told refl) is
+    by (Asks step h call owner) may does rows is told =
+        takes setting plan w past t laws new _ e (lanes.IsAsked call) h 0 0 owner (Asked call) may.0 tt tt may.1.0 refl (seen_is new (ByOwner h) None None (Asked call) e told refl) is
     by (Owns h owner did) may does rows is told =
         takes setting plan w past t laws new _ e lanes.Acts h 0 0 owner did.act may.0 tt tt tt (ap act_in may.1) (seen_is new (ByOwner h) None None did.act e told refl)
         (is ∙ sym (ap (λ o. slice_set w.owners h (owner_in o owner)) may.1))

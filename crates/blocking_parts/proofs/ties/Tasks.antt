@@ -171,7 +171,7 @@ tasks_after_move setting plan w past t laws move e new may does rows tasks = by 
   where
     by : (move : Move) → May w move → CrewMoves (IsPlanned plan) move w e new → new.rows ≡ rows_after w move → new.tasks ≡ tasks_after w move → SaidBy w move e → TasksHold new.tasks (moment new (step_of move) e ∷ past)
     by (Makes capacity) may does rows tasks told = stay setting plan w past t laws new _ e (owner_beside past new e (length w.owners) _ told) tasks
-    by (Asks h call owner) may does rows tasks told = stay setting plan w past t laws new _ e (owner_beside past new e h _ told) tasks
+    by (Asks step h call owner) may does rows tasks told = stay setting plan w past t laws new _ e (owner_beside past new e h _ told) tasks
     by (Owns h owner did) may does rows tasks told = stay setting plan w past t laws new _ e (owner_beside past new e h _ told) tasks
     by (Lends h owner added) may does rows tasks told = stay setting plan w past t laws new _ e (owner_beside past new e h _ told) tasks
     by (Delivers h owner number) may does rows tasks told = stay setting plan w past t laws new _ e (owner_beside past new e h _ told.1) tasks

@@ -21,6 +21,7 @@ use Rattle.blocking_laws.specs.declared.event.Moment.{Moment}
 use Rattle.blocking_laws.specs.declared.event.Party.{Party}
 use Rattle.blocking_laws.specs.declared.event.Party.TheVariants.{Owner, Pool}
 use Rattle.blocking_laws.specs.declared.event.Reply.TheVariants.{Handle}
+use Rattle.blocking_theorems.proofs.NoCopies.{none_copies}
 use Rattle.blocking_theorems.proofs.owners.whole.sessions.Goals as goal
 
 -- whether this is the first owner, or none
@@ -228,6 +229,7 @@ returns-clause-accepts_operation c = record {
   steps = search rules;
   pool = search rules;
   owners = λ h. by_first (0 == h) h (events operation_over) refl refl operated_whole;
+  copies = none_copies operation_over refl;
   tasks = search rules;
   wakes = search rules;
   owner_wakes = none_is_ever_lost operation_over refl;
@@ -240,6 +242,7 @@ returns-clause-accepts_return c = record {
   steps = search rules;
   pool = search rules;
   owners = λ h. by_first (0 == h) h (events inner_replied) refl refl returned_whole;
+  copies = none_copies inner_replied refl;
   tasks = search rules;
   wakes = search rules;
   owner_wakes = none_is_ever_lost inner_replied refl;
@@ -252,6 +255,7 @@ returns-clause-accepts_read c = record {
   steps = search rules;
   pool = search rules;
   owners = λ h. by_first (0 == h) h (events end_read) refl refl read_whole;
+  copies = none_copies end_read refl;
   tasks = search rules;
   wakes = search rules;
   owner_wakes = none_is_ever_lost end_read refl;
@@ -264,6 +268,7 @@ returns-clause-accepts_stop c = record {
   steps = search rules;
   pool = search rules;
   owners = λ h. by_first (0 == h) h (events (stop_back ▸ polls (Replied Handle) 2)) refl refl stopped_whole;
+  copies = none_copies (stop_back ▸ polls (Replied Handle) 2) refl;
   tasks = search rules;
   wakes = search rules;
   owner_wakes = none_is_ever_lost (stop_back ▸ polls (Replied Handle) 2) refl;

@@ -1,10 +1,7 @@
-use Rattle.blocking_core.specs.declared.unblock.PollCall.TheVariants.{Next}
-use Rattle.blocking_unblock.proofs.Replies.{crossed_as, follows_as}
+use Rattle.std.proofs.Common.{rules}
+use Rattle.blocking_unblock.specs.declared.place.Place.TheVariants as place
+use Rattle.blocking_unblock.proofs.Quick.{noted, quick}
 use Rattle.blocking_unblock.proofs.unblock.UnblockStream.poll_next.Goals as goal
 
 pub returns-in-Some-clause-follows : goal.returns-in-Some-clause-follows
-returns-in-Some-clause-follows g c =
-    follows_as c.in-Ready-Item.field-0-is Next c.args.self.now.place c.poll.new.self.place c.in-Ready-Item.ensures.follows
-
-pub returns-in-Some-clause-crossed : goal.returns-in-Some-clause-crossed
-returns-in-Some-clause-crossed g c = crossed_as c.in-Ready-Item.field-0-is _ _ c.in-Ready-Item.ensures.crosses
+returns-in-Some-clause-follows g c = quick c.args.self.now.place (place.Lent c.try_receive.new.self) (search rules) (noted c.try_receive.result) (search rules)

@@ -1,5 +1,7 @@
-use Rattle.std.proofs.Common.{◌∙◌, reverse, sym}
-use Rattle.blocking_parts.proofs.laws.Whole.{acts_is}
+use Rattle.std.proofs.Common.{◌∙◌, ap, reverse, sym}
+use Rattle.blocking_laws.specs.Steps.{is_job_action}
+use Rattle.blocking_parts.specs.Parts.{Parts, next_at}
+use Rattle.blocking_copiers.proofs.Readings.{acts_is}
 use Rattle.blocking_world.proofs.world.World.has_job_action.Goals as goal
 
 -- what the parts answer is what the laws say of the step
@@ -7,4 +9,5 @@ pub returns : goal.returns
 returns c =
     rw (sym c.self.view_is)
     (c.has_job_action.ensures
-    ∙ sym (acts_is c.self.inside.parts.crew.pool.counts.setting c.self.inside.plan.items c.self.inside.parts (reverse c.self.inside.trace.items) c.self.invariant.tied c.args.worker))
+    ∙ ap (λ (w : Parts). is_job_action (next_at w c.args.worker)) c.parts.ensures
+    ∙ sym (acts_is c.self.inside.assembly.parts.crew.pool.counts.setting c.self.inside.plan.items c.self.inside.assembly (reverse c.self.inside.trace.items) c.self.invariant c.args.worker))

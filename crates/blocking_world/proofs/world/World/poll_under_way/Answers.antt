@@ -1,5 +1,7 @@
-use Rattle.std.proofs.Common.{◌∙◌, reverse, sym}
-use Rattle.blocking_parts.proofs.laws.Whole.{polls_is}
+use Rattle.std.proofs.Common.{◌∙◌, ap, reverse, slice_get, sym}
+use Rattle.blocking_parts.specs.Carried.{polls_in}
+use Rattle.blocking_parts.specs.Parts.{Parts}
+use Rattle.blocking_copiers.proofs.Readings.{polls_is}
 use Rattle.blocking_world.proofs.world.World.poll_under_way.Goals as goal
 
 -- an owner is polled where it was seen to be
@@ -7,4 +9,5 @@ pub returns : goal.returns
 returns c =
     rw (sym c.self.view_is)
     (c.polls.ensures
-    ∙ polls_is c.self.inside.parts.crew.pool.counts.setting c.self.inside.plan.items c.self.inside.parts (reverse c.self.inside.trace.items) c.self.invariant.tied c.args.owner)
+    ∙ ap (λ (w : Parts). polls_in (slice_get w.owners c.args.owner)) c.parts.ensures
+    ∙ polls_is c.self.inside.assembly.parts.crew.pool.counts.setting c.self.inside.plan.items c.self.inside.assembly (reverse c.self.inside.trace.items) c.self.invariant c.args.owner)

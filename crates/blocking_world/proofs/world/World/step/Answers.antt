@@ -5,9 +5,10 @@ use Rattle.blocking_laws.specs.declared.event.Event.{Event}
 use Rattle.blocking_laws.specs.declared.event.Moment.{Moment}
 use Rattle.blocking_laws.specs.declared.step.Step.{Step}
 use Rattle.blocking_parts.specs.Carried.{bytes_of}
-use Rattle.blocking_parts.specs.Moves.{Steps}
-use Rattle.blocking_parts.specs.Ties.{IsLawful}
-use Rattle.blocking_parts.proofs.laws.Whole.{stays_lawful, same_setting, carried}
+use Rattle.blocking_copiers.specs.Assemblies.{Does}
+use Rattle.blocking_copiers.specs.Ties.{IsLawful}
+use Rattle.blocking_copiers.proofs.Carried.{does_carry}
+use Rattle.blocking_copiers.proofs.Whole.{does_lawful, does_setting}
 use Rattle.blocking_world.proofs.world.World.step.Goals as goal
 
 -- what fits stands at the end
@@ -20,14 +21,14 @@ put_at_end r old between new moment same ok is =
 pub twin_in-twin-requires-clause-enough : goal.twin_in-twin-requires-clause-enough
 twin_in-twin-requires-clause-enough c =
     subst (λ n. length (bytes_of c.in_ok-event.event.act) ≤ n) (sym (c.in_ok-room.ensures.exact ∙ c.bytes_to_come.ensures))
-    (carried c.deref.result.now c.self.inside.parts c.step_with.new.parts c.args.step.now c.in_ok-event.event
-    (subst (λ (s : Step). Steps (IsPlanned c.deref.result.now) s c.self.inside.parts c.in_ok-event.event c.step_with.new.parts) c.in_ok-taken.ensures c.in_ok-event.ensures.ok))
+    (does_carry c.deref.result.now c.self.inside.assembly c.in_ok-event.event c.step_with.new.assembly c.args.step.now
+    (subst (λ (s : Step). Does (IsPlanned c.deref.result.now) s c.self.inside.assembly c.in_ok-event.event c.step_with.new.assembly) c.in_ok-taken.ensures c.in_ok-event.ensures.ok))
 
 -- the step as the parts did it
-does : (c : goal.Joined-push) → Steps (IsPlanned c.self.inside.plan.items) c.args.step.now c.self.inside.parts c.in_ok-event.event c.step_with.new.parts
+does : (c : goal.Joined-push) → Does (IsPlanned c.self.inside.plan.items) c.args.step.now c.self.inside.assembly c.in_ok-event.event c.step_with.new.assembly
 does c =
-    subst (λ (s : Step). Steps (IsPlanned c.self.inside.plan.items) s c.self.inside.parts c.in_ok-event.event c.step_with.new.parts) c.in_ok-taken.ensures
-    (subst (λ plan. Steps (IsPlanned plan) c.in_ok-taken.taken c.self.inside.parts c.in_ok-event.event c.step_with.new.parts) c.deref.ensures.value c.in_ok-event.ensures.ok)
+    subst (λ (s : Step). Does (IsPlanned c.self.inside.plan.items) s c.self.inside.assembly c.in_ok-event.event c.step_with.new.assembly) c.in_ok-taken.ensures
+    (subst (λ plan. Does (IsPlanned plan) c.in_ok-taken.taken c.self.inside.assembly c.in_ok-event.event c.step_with.new.assembly) c.deref.ensures.value c.in_ok-event.ensures.ok)
 
 -- the moment stands at the end of the trace
 at_end : (c : goal.Joined-push) → c.push.new.self.items ≡ c.self.inside.trace.items ++ record { step = c.args.step.now; event = c.in_ok-event.event } ∷ []
@@ -41,27 +42,27 @@ at_end c =
 newest : (c : goal.Joined-push) → reverse c.push.new.self.items ≡ record { step = c.args.step.now; event = c.in_ok-event.event } ∷ reverse c.self.inside.trace.items
 newest c = ap reverse (at_end c) ∙ reverse-append c.self.inside.trace.items (record { step = c.args.step.now; event = c.in_ok-event.event } ∷ [])
 
-kept : (c : goal.Joined-push) → c.step_with.new.parts.crew.pool.counts.setting ≡ c.self.inside.parts.crew.pool.counts.setting
+kept : (c : goal.Joined-push) → c.step_with.new.assembly.parts.crew.pool.counts.setting ≡ c.self.inside.assembly.parts.crew.pool.counts.setting
 kept c =
-    same_setting c.self.inside.parts.crew.pool.counts.setting c.self.inside.plan.items c.self.inside.parts (reverse c.self.inside.trace.items) c.self.invariant c.step_with.new.parts
-    c.in_ok-event.event c.args.step.now (does c)
+    does_setting c.self.inside.assembly.parts.crew.pool.counts.setting c.self.inside.plan.items c.self.inside.assembly (reverse c.self.inside.trace.items) c.self.invariant c.args.step.now
+    c.in_ok-event.event c.step_with.new.assembly (does c)
 
 -- the world stays lawful
 pub invariant_of-self-2 : goal.invariant_of-self-2
 invariant_of-self-2 c =
-    subst (λ setting. IsLawful setting c.self.inside.plan.items c.step_with.new.parts (reverse c.push.new.self.items)) (sym (kept c))
-    (subst (λ past. IsLawful c.self.inside.parts.crew.pool.counts.setting c.self.inside.plan.items c.step_with.new.parts past) (sym (newest c))
-    (stays_lawful c.self.inside.parts.crew.pool.counts.setting c.self.inside.plan.items c.self.inside.parts (reverse c.self.inside.trace.items) c.self.invariant c.step_with.new.parts
-    c.in_ok-event.event c.args.step.now (does c)))
+    subst (λ setting. IsLawful setting c.self.inside.plan.items c.step_with.new.assembly (reverse c.push.new.self.items)) (sym (kept c))
+    (subst (λ past. IsLawful c.self.inside.assembly.parts.crew.pool.counts.setting c.self.inside.plan.items c.step_with.new.assembly past) (sym (newest c))
+    (does_lawful c.self.inside.assembly.parts.crew.pool.counts.setting c.self.inside.plan.items c.self.inside.assembly (reverse c.self.inside.trace.items) c.self.invariant c.args.step.now
+    c.in_ok-event.event c.step_with.new.assembly (does c)))
 
 -- one moment more was seen
 pub returns-clause-ok : goal.returns-clause-ok
 returns-clause-ok c =
     rw (sym c.self.view_is)
     (ap (λ setting. record { setting = setting; plan = c.self.inside.plan.items; past = reverse c.push.new.self.items }) (kept c)
-    ∙ ap (λ past. record { setting = c.self.inside.parts.crew.pool.counts.setting; plan = c.self.inside.plan.items; past = past }) (newest c)
+    ∙ ap (λ past. record { setting = c.self.inside.assembly.parts.crew.pool.counts.setting; plan = c.self.inside.plan.items; past = past }) (newest c)
     ∙ ap (λ (e : Event). record {
-      setting = c.self.inside.parts.crew.pool.counts.setting;
+      setting = c.self.inside.assembly.parts.crew.pool.counts.setting;
       plan = c.self.inside.plan.items;
       past = record { step = c.args.step.now; event = e } ∷ reverse c.self.inside.trace.items;
     }) (sym c.twin_in-twin.ensures))

@@ -1,0 +1,17 @@
+pub mod Places
+pub mod Words
+pub mod Polls
+pub mod Steps
+pub mod Copying
+pub mod Orders
+pub mod OrderSteps
+pub mod Seen
+pub mod Stays
+pub mod Owners
+pub mod NextActs
+pub mod Endings
+pub mod Lawful
+pub mod Whole
+pub mod Carried
+pub mod Begins
+pub mod Readings

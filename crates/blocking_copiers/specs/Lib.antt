@@ -1,0 +1,3 @@
+pub mod Copiers
+pub mod Assemblies
+pub mod Ties

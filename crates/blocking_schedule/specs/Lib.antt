@@ -1,0 +1,13 @@
+pub mod Places
+pub mod Queues
+pub mod Kept
+pub mod Locks
+pub mod PoolSteps
+pub mod Readings
+pub mod Ways
+pub mod Sequences
+pub mod Steps
+pub mod Acts
+pub mod Seats
+pub mod Streams
+pub mod StreamSteps

@@ -1,0 +1,205 @@
+"""How an item is quoted: the first sentence of its comment, and what its source says of it but for bodies and what is private."""
+
+import re
+import textwrap
+
+from .source import CRATES, Unknown, declared, impl_of
+
+WIDE = 110
+LINK = re.compile(r"\[(`[^`]*`)\](?:\([^)]*\))?")
+SENTENCE = re.compile(r".*?[.?!](?=\s|$)")
+
+
+def first_sentence(part):
+    """The first sentence of a comment, as lines of a comment."""
+    said = []
+    for line in part.above:
+        if line == "///":
+            break
+        if line.startswith("///"):
+            said.append(line.removeprefix("///").strip())
+    text = LINK.sub(r"\1", " ".join(said))
+    found = SENTENCE.match(text)
+    sentence = found.group() if found else text
+    return textwrap.wrap(sentence, WIDE, initial_indent="/// ", subsequent_indent="/// ", break_long_words=False, break_on_hyphens=False)
+
+
+def derives(part):
+    """The traits that are derived, as they stand in the source."""
+    return [line for line in part.above if line.startswith("#[derive")]
+
+
+def indented(lines):
+    """The lines, one step further right."""
+    return [f"    {line}" if line else "" for line in lines]
+
+
+def enclosed(head, inner):
+    """What stands in braces, behind its head."""
+    return [*head, *indented(inner), "}"] if inner else [*head[:-1], f"{head[-1]} .. }}"]
+
+
+def spaced(blocks):
+    """The lines of all blocks, with an empty one between two blocks if one of them has several lines."""
+    lines, before = [], []
+    for block in blocks:
+        if lines and (len(block) > 1 or len(before) > 1):
+            lines.append("")
+        lines += block
+        before = block
+    return lines
+
+
+def signature(part):
+    """A function without its body, and with its contract."""
+    lines = []
+    for line in part.head():
+        if not line.startswith(" ") and line.endswith((" {", " {}")):
+            return [*lines, line[: line.rindex(" {")]]
+        lines.append(line)
+    return lines
+
+
+def function(part):
+    return first_sentence(part) + signature(part)
+
+
+def has_contract(part):
+    """Whether a function states something of its own."""
+    return any(line.startswith(("    requires", "    ensures")) for line in signature(part))
+
+
+def type_head(part):
+    """The lines of a type, a trait or an impl to its opening brace."""
+    for number, line in enumerate(part.lines):
+        if line.endswith("{"):
+            return list(part.lines[: number + 1])
+    return list(part.lines)
+
+
+def struct(part):
+    """A struct with the fields that users name."""
+    above, head = first_sentence(part) + derives(part), type_head(part)
+    if not head[-1].endswith("{"):
+        # (fields without names are private here)
+        return above + [re.sub(r"\(.+\);$", "(..);", line) for line in head]
+    fields = [line.strip() for line in part.lines[len(head) : -1] if line.startswith("    pub ")]
+    return above + enclosed(head, fields)
+
+
+def enum(part):
+    """An enum with its variants."""
+    above, head = first_sentence(part) + derives(part), type_head(part)
+    if not head[-1].endswith("{"):
+        return above + head
+    variants = [line.removeprefix("    ") for line in part.lines[len(head) : -1]]
+    return above + enclosed(head, [line for line in variants if line and not line.lstrip().startswith("//")])
+
+
+def member(part):
+    """A member of a trait."""
+    return function(part) if part.kind == "fn" else first_sentence(part) + list(part.lines)
+
+
+def trait(part):
+    """A trait with its members."""
+    head = type_head(part)
+    if not head[-1].endswith("{"):
+        return first_sentence(part) + head
+    return first_sentence(part) + enclosed(head, spaced(member(inner) for inner in part.inner() if inner.kind != "ghost use"))
+
+
+def own_members(part):
+    """What an impl that is of no trait gives to users."""
+    return [function(inner) for inner in part.inner() if inner.kind == "fn" and inner.is_public]
+
+
+def members_of_trait(part, name):
+    """What an impl of this trait says that the trait doesn't: its types, its rules, and the contracts that are its own."""
+    for inner in part.inner() if type_head(part)[-1].endswith("{") else ():
+        if name == "Model":
+            if inner.name == "Value":
+                yield list(inner.lines)
+        elif name.startswith("Carries"):
+            return
+        elif inner.kind in ("ghost", "type"):
+            yield list(inner.lines)
+        elif inner.kind == "fn" and has_contract(inner):
+            yield signature(inner)
+
+
+def is_of(part, item):
+    """Whether a part is an impl of a type."""
+    return part.kind == "impl" and part.name == item.part.name
+
+
+def files_of(item):
+    """The sources in which impls of a type are looked for: its own, and those of its crate, if none of them has its name too."""
+    folder = next(folder for folder in item.file.parents if folder.name == "src")
+    files = sorted(folder.rglob("*.rt"))
+    same = [file for file in files if any(part.name == item.part.name and part.kind in ("struct", "enum") for part in declared(file))]
+    return [item.file] if len(same) > 1 else files
+
+
+def impls(item):
+    """The impls of a type: the lines of those that say something, and the traits of those that don't."""
+    blocks, bare = [], []
+    for file in files_of(item):
+        for part in declared(file):
+            if not is_of(part, item):
+                continue
+            name = impl_of(" ".join(part.lines)).trait
+            inner = list(members_of_trait(part, name)) if name else own_members(part)
+            if inner:
+                blocks.append(enclosed(type_head(part), spaced(inner)))
+            elif name:
+                bare.append(name)
+    return blocks, bare
+
+
+def quoted_type(item):
+    """A type with all that is had of it."""
+    blocks, bare = impls(item)
+    lines = spaced([struct(item.part) if item.part.kind == "struct" else enum(item.part), *blocks])
+    return [*lines, f"// Besides: {', '.join(bare)}"] if bare else lines
+
+
+def quoted(item):
+    """The lines of an item."""
+    part = item.part
+    if part.kind in ("struct", "enum"):
+        return quoted_type(item)
+    if part.kind == "trait":
+        return trait(part)
+    return function(part) if part.kind == "fn" else first_sentence(part) + list(part.lines)
+
+
+def link_to(file):
+    """The name of a source as a link, from a page in a crate's folder."""
+    name = file.relative_to(CRATES)
+    return f"[`{name}`](../{name})"
+
+
+def block(lines):
+    """Lines of code, in a page."""
+    return ["```rust", *lines, "```"]
+
+
+def whole_part(part):
+    """A part as it stands in its source."""
+    return [*part.above, *part.lines]
+
+
+def is_used_by_caller(part, names):
+    """Whether a part is one of these; `use` stands for all lines that say what is used."""
+    return "use" in names if part.kind.endswith("use") else part.name in names and part.kind in ("fn", "struct", "enum", "impl")
+
+
+def caller(path, names):
+    """What has these names in a source, as it stands there."""
+    file = CRATES / path
+    parts = [part for part in declared(file) if is_used_by_caller(part, names)]
+    missing = set(names) - {part.name for part in parts} - {"use"}
+    if missing:
+        raise Unknown(f"{path} has no {', '.join(sorted(missing))}")
+    return [f"From {link_to(file)}:", "", *block(spaced(whole_part(part) for part in parts))]
