@@ -1,6 +1,9 @@
--- What a fault of a job is to an owner, and the texts of faults, as lists of bytes.
-use Rattle.std.specs.Prelude.{ℕ, List, codes, Option, Some}
-use Rattle.blocking_pool.specs.Refusals.{reason_text}
+-- What a fault of a job is to an owner, the texts of faults, as lists of bytes, and what each is as an error of the system.
+use Rattle.std.specs.Prelude.{ℕ, List, codes, Option, Some, ◌≡◌}
+use Rattle.std.specs.IoError.{error_kind}
+use Rattle.std.specs.declared.io.Error.{Error}
+use Rattle.std.specs.declared.io.ErrorKind.TheVariants as kind
+use Rattle.blocking_pool.specs.Refusals.{reason_text, refusal_kind}
 use Rattle.blocking_core.specs.declared.io.Fault.{Fault}
 use Rattle.blocking_core.specs.declared.io.Fault.TheVariants.{Io, WriteZero, Refused}
 use Rattle.blocking_core.specs.declared.io.JobFault.{JobFault}
@@ -17,3 +20,9 @@ fault_text error_text (Refused why) = Some (reason_text why)
 abbrev pub told : {E : Type 0} → JobFault E → Fault E
 told (of_job.Io error) = Io error
 told of_job.WriteZero = WriteZero
+
+-- the error of the system that a fault is told as: the handle's own error as it is, and one of the fault's kind otherwise
+abbrev pub IsToldAs : Fault Error → Error → Type 0
+IsToldAs (Io error) result = result ≡ error
+IsToldAs WriteZero result = error_kind result ≡ kind.WriteZero
+IsToldAs (Refused why) result = error_kind result ≡ refusal_kind why

@@ -1,7 +1,7 @@
 //! What may go wrong where a handle is lent to a job.
 use blocking_pool::pool::Refusal;
 use std::error::Error;
-use std::fmt;
+use std::{fmt, io};
 
 /// Why a call on a lent handle failed.
 #[derive(Clone, Copy, Debug, PartialEq, Eq)]
@@ -80,3 +80,22 @@ impl<E: fmt::Display> fmt::Display for Fault<E> {
 }
 
 impl<E: Error> Error for Fault<E> {}
+
+/// So that a `?` passes a fault on where errors of the system go: the handle's own error is handed on as it is, a write that got nothing on
+/// is of the kind [`WriteZero`](io::ErrorKind::WriteZero), and a refusal is of the kind that it is as an error of the system.
+impl From<Fault<io::Error>> for io::Error {
+    ghost use Rattle.blocking_core.specs.Faults.{IsToldAs};
+
+    ghost from_gives = { λ fault error. IsToldAs fault error };
+
+    fn from(fault: Fault<io::Error>) -> io::Error {
+        match fault {
+            Fault::Io(error) => error,
+            Fault::WriteZero => io::Error::new(
+                io::ErrorKind::WriteZero,
+                "none of the bytes were taken",
+            ),
+            Fault::Refused(why) => io::Error::from(why),
+        }
+    }
+}

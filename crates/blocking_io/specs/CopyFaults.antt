@@ -2,6 +2,7 @@
 use Rattle.std.specs.Prelude.{ℕ, List, ◌++◌, codes, Option, Some, None, Result, Ok, Err}
 use Rattle.std.specs.declared.io.Error.{Error}
 use Rattle.blocking_core.specs.Faults.{fault_text}
+use Rattle.blocking_core.specs.declared.io.Fault.{Fault}
 use Rattle.blocking_core.specs.declared.copy.CopyEnd.{CopyEnd}
 use Rattle.blocking_core.specs.declared.copy.CopyEnd.TheVariants as end
 use Rattle.blocking_io.specs.declared.copy.CopyFault.{CopyFault}
@@ -12,6 +13,11 @@ abbrev pub told : CopyEnd Error → Result ℕ CopyFault
 told (end.Copied copied) = Ok copied
 told (end.Reading why) = Err (Reading why)
 told (end.Writing why) = Err (Writing why)
+
+-- what its side failed with
+abbrev pub fault_of : CopyFault → Fault Error
+fault_of (Reading why) = why
+fault_of (Writing why) = why
 
 abbrev pub behind : List ℕ → Option (List ℕ) → Option (List ℕ)
 behind words None = None

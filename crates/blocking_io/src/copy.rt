@@ -33,6 +33,20 @@ impl fmt::Display for CopyFault {
 
 impl Error for CopyFault {}
 
+/// So that a `?` passes it on where errors of the system go, as it does the fault inside. Which side failed isn't told any more.
+impl From<CopyFault> for io::Error {
+    ghost use Rattle.blocking_core.specs.Faults.{IsToldAs};
+    ghost use Rattle.blocking_io.specs.CopyFaults.{fault_of};
+
+    ghost from_gives = { λ why error. IsToldAs (fault_of why) error };
+
+    fn from(why: CopyFault) -> io::Error {
+        match why {
+            CopyFault::Reading(fault) | CopyFault::Writing(fault) => io::Error::from(fault),
+        }
+    }
+}
+
 /// The future of a copy. It reads a piece, writes all of it, and then reads the next; at the end it flushes, and is ready with how many
 /// bytes were written once that is done. The count stays at the greatest number of 64 bits once it is there.
 ///

@@ -5,32 +5,71 @@ ghost use Rattle.blocking_pool.specs.Refusals.{reason_text};
 use crate::pool::job::Carries;
 use crate::pool::token::{Turn, WorkerPass};
 use std::error::Error;
-use std::fmt;
+use std::{fmt, io};
 
 /// Why a job was refused.
 #[derive(Clone, Copy, Debug, PartialEq, Eq)]
 pub enum Refusal {
-    /// There was no memory.
+    /// There was no memory. Asking again may help, once some was given back.
     Memory,
-    /// No worker is there, and none could be started.
+    /// No worker is there, and none could be started. Asking again may help, once a thread can be started.
     NoWorker,
-    /// The serials are used up.
+    /// The serials are used up. Asking again doesn't help.
     Numbers,
+}
+
+impl Refusal {
+    ghost use Rattle.std.specs.Prelude.{◌≡◌};
+    ghost use Rattle.blocking_pool.specs.Refusals.{refusal_kind};
+
+    // The reason, in words.
+    fn reason(self) -> &'static str
+        ensures { result.now ≡ reason_text self }
+    {
+        match self {
+            Refusal::Memory => "no memory",
+            Refusal::NoWorker => "no worker could be started",
+            Refusal::Numbers => "the numbers are used up",
+        }
+    }
+
+    // The kind of error that a program which meets it knows from the system.
+    fn kind(self) -> io::ErrorKind
+        ensures { result ≡ refusal_kind self }
+    {
+        match self {
+            Refusal::Memory => io::ErrorKind::OutOfMemory,
+            Refusal::NoWorker => io::ErrorKind::WouldBlock,
+            Refusal::Numbers => io::ErrorKind::Other,
+        }
+    }
 }
 
 impl fmt::Display for Refusal {
     ghost output = { λ why. Some (reason_text why) };
 
     fn fmt<W: fmt::Write>(&self, f: &mut fmt::Formatter<W>) -> fmt::Result {
-        match *self {
-            Refusal::Memory => f.write_str("no memory"),
-            Refusal::NoWorker => f.write_str("no worker could be started"),
-            Refusal::Numbers => f.write_str("the numbers are used up"),
-        }
+        f.write_str(self.reason())
     }
 }
 
 impl Error for Refusal {}
+
+/// So that a `?` passes a refusal on where errors of the system go. Its kind is
+/// [`OutOfMemory`](io::ErrorKind::OutOfMemory) for want of memory, [`WouldBlock`](io::ErrorKind::WouldBlock) for want of a worker
+/// (which is what a thread that can't be started is told as) and [`Other`](io::ErrorKind::Other) where the serials are used up; it shows
+/// the same reason.
+impl From<Refusal> for io::Error {
+    ghost use Rattle.std.specs.Prelude.{◌≡◌};
+    ghost use Rattle.std.specs.IoError.{error_kind};
+    ghost use Rattle.blocking_pool.specs.Refusals.{refusal_kind};
+
+    ghost from_gives = { λ why error. error_kind error ≡ refusal_kind why };
+
+    fn from(why: Refusal) -> io::Error {
+        io::Error::new(why.kind(), why.reason())
+    }
+}
 
 /// What was refused, handed back, and why.
 ///
@@ -72,6 +111,19 @@ impl<X: Drop> fmt::Display for Refused<X> {
 }
 
 impl<X: Drop> Error for Refused<X> {}
+
+/// So that a `?` passes it on where errors of the system go, as it does a [`Refusal`]. What came back is dropped.
+impl<X: Drop> From<Refused<X>> for io::Error {
+    ghost use Rattle.std.specs.Prelude.{◌≡◌};
+    ghost use Rattle.std.specs.IoError.{error_kind};
+    ghost use Rattle.blocking_pool.specs.Refusals.{refusal_kind};
+
+    ghost from_gives = { λ refused error. error_kind error ≡ refusal_kind refused.why };
+
+    fn from(refused: Refused<X>) -> io::Error {
+        io::Error::from(refused.why)
+    }
+}
 
 /// What a wake or a cancel did to its job.
 #[derive(Clone, Copy, Debug, PartialEq, Eq)]
