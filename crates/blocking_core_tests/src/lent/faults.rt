@@ -85,10 +85,7 @@ fn faults_are_errors_of_the_system(rt: HostRuntime) {
             io::ErrorKind::NotFound,
         ),
         (Fault::WriteZero, io::ErrorKind::WriteZero),
-        (
-            Fault::Refused(Refusal::NoWorker),
-            io::ErrorKind::WouldBlock,
-        ),
+        (Fault::Refused(Refusal::NoWorker), io::ErrorKind::WouldBlock),
     ];
     for (line, (fault, kind)) in rows.into_iter().enumerate() {
         match fail(fault) {
