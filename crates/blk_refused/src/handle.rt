@@ -8,7 +8,7 @@ use std::sync::atomic::{AtomicBool, AtomicUsize, Ordering};
 use std::{fmt, io, thread};
 
 /// How often is looked for what has to come, before it is said that it doesn't: for some seconds.
-pub(crate) const LOOKS: u32 = 5_000_000;
+pub(crate) const LOOKS: u32 = 20_000_000;
 
 /// How many bytes there are. Byte i is i as `u8`.
 pub(crate) const BYTES: u64 = 1_000;

@@ -5,6 +5,7 @@ use crate::scene::Sight::{Gives, Sleeps, Stops, Waits, Wakes};
 use crate::scene::Step::{Begin, Do, OneByOne, Pause, See, Start, Within};
 use crate::scene::{Row, play};
 use crate::threads::come_to_be;
+use crate::visit::LOOKS;
 use crate::visit::Stop::InCall;
 use blocking::{CallJob, Executor, Host, Task, unblock};
 use blocking_core::task::Call;
@@ -14,6 +15,7 @@ use std::sync::Arc;
 use std::sync::atomic::{AtomicU64, Ordering};
 use std::test::Fail;
 use std::thread::yield_now;
+use std::time::{Duration, Instant};
 
 // Answers one more.
 #[derive(Drop)]
@@ -86,9 +88,6 @@ fn thousand_calls_of_which_every_third_is_cancelled(rt: HostRuntime) -> Result<(
     Ok(())
 }
 
-// How often a call looks for the other of its pair.
-const TURNS: u32 = 1_000_000;
-
 // One of two calls that each wait for the other. Each tells its round.
 #[derive(Drop)]
 struct Meet {
@@ -105,7 +104,7 @@ impl Call for Meet {
     // Answers whether the other came.
     fn call(self) -> bool {
         self.own.store(self.round, Ordering::SeqCst);
-        for _ in 0..TURNS {
+        for _ in 0..LOOKS {
             if self.other.load(Ordering::SeqCst) >= self.round {
                 return true;
             }
@@ -148,28 +147,49 @@ fn pair_meets<H: Host>(
     Ok(block_on(rt, first)? && block_on(rt, second)?)
 }
 
-// Whether the calls of each of so many rounds meet.
-fn pairs_meet<H: Host>(rt: H, rounds: u64) -> io::Result<bool> {
+// How many milliseconds a round lasts at least whose second call waits until its worker's wait times out, which is after 500 milliseconds.
+const LATE: u64 = 400;
+
+// The round that is the last of so many.
+const ROUNDS: u64 = 2_000;
+
+// How many rounds last long; None where the calls of one don't meet.
+fn late_rounds<H: Host>(rt: H) -> io::Result<Option<u32>> {
     let Ok(executor) = Executor::new(rt, Some("2")) else {
-        return Ok(false);
+        return Ok(None);
     };
     let pair = Pair {
         first: Arc::new(rt.alloc(), AtomicU64::new(0))?,
         second: Arc::new(rt.alloc(), AtomicU64::new(0))?,
     };
-    for round in 1..=rounds {
+    let mut late = 0u32;
+    for round in 1..=ROUNDS {
+        let start = Instant::now(&rt)?;
         if !pair_meets(&rt, &executor, &pair, round)? {
-            return Ok(false);
+            return Ok(None);
+        }
+        // (in the first round both workers are started, which may take its time)
+        if round > 1 && start.elapsed(&rt)? >= Duration::from_millis(LATE) {
+            late = late.saturating_add(1);
         }
     }
-    Ok(true)
+    Ok(Some(late))
 }
+
+// How often all rounds are played, where a machine with much else to do holds one up.
+const PLAYS: u32 = 3;
 
 // (the calls of a round find their workers idle, asleep or looking, as the round before left them)
 #[test]
 fn two_calls_run_at_once(rt: HostRuntime) -> Result<(), Fail> {
-    assert!(rt; pairs_meet(rt, 2000)?);
-    Ok(())
+    for _ in 0..PLAYS {
+        let late = late_rounds(rt)?;
+        assert!(rt; late.is_some());
+        if late == Some(0) {
+            return Ok(());
+        }
+    }
+    panic!(rt; "the calls of some rounds meet late")
 }
 
 const SLOW: Row = (

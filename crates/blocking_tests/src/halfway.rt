@@ -16,7 +16,7 @@ const PIECE: usize = 2;
 const CAPACITY: usize = 8;
 
 // How often a test looks, with a millisecond between, before it says that something doesn't come.
-const LOOKS: u32 = 2_000;
+const LOOKS: u32 = 10_000;
 
 // A reader without an end, which gives a byte a call and takes a millisecond for it. Who shares the count sees how many handles live.
 #[derive(Drop)]

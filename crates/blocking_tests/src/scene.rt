@@ -294,6 +294,10 @@ impl<J: Job + Carries<CallJob<Visit, H>>, H: Runtime + RandomSource + Files> Sce
             if self.first_wrong(steps)?.is_none() {
                 return Ok(None);
             }
+            // (a call that has stopped would keep its worker)
+            for call in self.calls.iter() {
+                call.track.go_on();
+            }
             self.calls.clear();
         }
         self.first_wrong(steps)
@@ -304,7 +308,7 @@ impl<J: Job + Carries<CallJob<Visit, H>>, H: Runtime + RandomSource + Files> Sce
 pub(crate) type Row = (&'static str, &'static [Step]);
 
 // How often a scene is played that has to be in time.
-const TRIES: u32 = 6;
+const TRIES: u32 = 20;
 
 // A scene that has just begun. The setting is the executor's.
 fn new_scene<J: Job + Carries<CallJob<Visit, H>> + Send + 'static, H: Host + Files>(

@@ -69,8 +69,8 @@ impl Drop for Marked {
     }
 }
 
-// Whether so many jobs begin, each on a worker of its own, and come to be parked.
-fn are_parked<H: Host>(executor: &Executor<Marked, H>, track: &Arc<Track>) -> io::Result<bool> {
+// Whether so many jobs begin, each on a worker of its own.
+fn begin<H: Host>(executor: &Executor<Marked, H>, track: &Arc<Track>) -> io::Result<bool> {
     for _ in 0..JOBS {
         let job = Marked {
             track: Arc::try_clone(track)?,
@@ -79,9 +79,7 @@ fn are_parked<H: Host>(executor: &Executor<Marked, H>, track: &Arc<Track>) -> io
             return Ok(false);
         }
     }
-    let have_begun = reaches(&track.begun, JOBS);
-    track.may_wait.store(true, Ordering::SeqCst);
-    Ok(have_begun && come_to_idle(executor))
+    Ok(reaches(&track.begun, JOBS))
 }
 
 fn come_to_idle<J: Job, H: Runtime>(executor: &Executor<J, H>) -> bool {
@@ -102,8 +100,11 @@ fn drops_after_a_sweep<H: Host>(
     executor: &Executor<Marked, H>,
     track: &Arc<Track>,
 ) -> io::Result<Option<(usize, bool)>> {
+    let have_begun = begin(executor, track)?;
+    // (no worker waits before)
     let start = Instant::now(&rt)?;
-    let are_parked = are_parked(executor, track)?;
+    track.may_wait.store(true, Ordering::SeqCst);
+    let are_parked = have_begun && come_to_idle(executor);
     sleep(&rt, Duration::from_millis(20));
     track.mark.store(true, Ordering::SeqCst);
     let swept = executor.sweep();
@@ -129,15 +130,15 @@ fn drops_of_new_pool<H: Host>(rt: H) -> Result<Option<(usize, bool)>, Fail> {
 }
 
 // How often is tried to be in time.
-const TRIES: u32 = 6;
+const TRIES: u32 = 20;
 
+// (a worker may come late to its wait, and then takes a job that nobody rang it for; or late from it. A sweep that rings all has three drops each time)
 #[test]
 fn sweep_rings_one_worker(rt: HostRuntime) -> Result<(), Fail> {
     for _ in 0..TRIES {
-        if let Some(drops) = drops_of_new_pool(rt)? {
-            assert_eq!(rt; drops, (1, true));
+        if drops_of_new_pool(rt)? == Some((1, true)) {
             return Ok(());
         }
     }
-    panic!(rt; "the machine is too slow")
+    panic!(rt; "no sweep rang one worker, or the machine is too slow")
 }

@@ -12,6 +12,9 @@ const OTHERS: usize = 2;
 // How often the workers are counted, with a millisecond between, before a test says that they don't come to a number.
 const COUNTS: u32 = 2_000;
 
+// The same where all are to go: since none comes back then, it can be waited for on a machine with much else to do.
+const COUNTS_TO_NONE: u32 = 10_000;
+
 /// What a count of workers needs of the system.
 pub(crate) trait System: Files + AllocGlobal + Clock + Clone + Drop {}
 
@@ -43,7 +46,8 @@ fn are_workers<R: System>(rt: &R, count: usize) -> io::Result<bool> {
 
 /// Whether the workers come to be so many.
 pub(crate) fn come_to_be<R: System>(rt: &R, count: usize) -> io::Result<bool> {
-    for _ in 0..COUNTS {
+    let counts = if count == 0 { COUNTS_TO_NONE } else { COUNTS };
+    for _ in 0..counts {
         if are_workers(rt, count)? {
             return Ok(true);
         }

@@ -269,8 +269,8 @@ struct Stays<J: Job> {
     job: J,
 }
 
-// How long it stays: for 100 milliseconds at least, since a processor takes 10 nanoseconds or more for each.
-const SPINS: u32 = 10_000_000;
+// How long it stays: for 100 milliseconds at least, since a processor takes 3 nanoseconds or more for each.
+const SPINS: u32 = 40_000_000;
 
 impl<J: Job> Carries<J> for Stays<J> {
     ghost use Rattle.std.specs.Prelude.{Some, refl};
@@ -319,13 +319,15 @@ fn flushes_where_seated<J: Job + Carries<WriteJob<Late<H>, H>>, H: Host>(
         rt,
         flushed: Arc::try_clone(&flushed)?,
         kept: Vec::new(rt.alloc()),
-        is_to_stop: false,
+        is_to_stop: true,
     };
-    let start = Instant::now(&rt)?;
     let mut owner = Unblock::<_, u8, J, H>::with_capacity(4, pool, writer);
     let _ = WriteJob::begin(&mut owner, &mut mock);
+    let has_begun = flushed.track.stops();
+    let start = Instant::now(&rt)?;
+    flushed.track.go_on();
     let shared = &flushed;
-    if !comes_true(|| shared.written() == 4) {
+    if !has_begun || !comes_true(|| shared.written() == 4) {
         return Ok(Some(false));
     }
     thread::sleep(&rt, Duration::from_millis(20));
@@ -343,7 +345,7 @@ fn flushes_in_time<H: Host>(rt: H) -> io::Result<Option<bool>> {
 }
 
 // How often is tried to be in time, which a machine with much else to do may not give.
-const TRIES: u32 = 50;
+const TRIES: u32 = 20;
 
 #[test]
 fn writer_that_is_seated_and_runs_flushes_all(rt: HostRuntime) -> Result<(), Fail> {

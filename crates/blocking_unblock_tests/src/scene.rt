@@ -282,11 +282,12 @@ impl<J: Job + Carries<ReadJob<Planned, H>>, H: Runtime + RandomSource> Scene<J, 
     }
 }
 
-/// Whether there come to be so many workers, all idle, and no job that is queued.
+/// Whether there come to be so many workers, all idle, and no job that is queued. (or fewer, since one that waited for half a second may be
+/// gone by now)
 pub(crate) fn rests<J: Job, H: Runtime>(executor: &Executor<J, H>, workers: usize) -> bool {
     for _ in 0..LOOKS {
         let counts = executor.counts();
-        if counts.queued == 0 && counts.idle == counts.workers && counts.workers == workers {
+        if counts.queued == 0 && counts.idle == counts.workers && counts.workers <= workers {
             return true;
         }
         thread::yield_now();

@@ -1,11 +1,9 @@
 //! Uses of the crate `blocking`: one call here, and more in the modules. What they print is always the same.
 #![tactic(auto)]
 
-mod copying;
 mod folder;
 mod host;
 mod lines;
-mod log;
 mod own_job;
 mod records;
 mod refusal;
@@ -61,7 +59,5 @@ fn more<H: Host + Files<File = File> + Env>(rt: H) -> Result<()> {
     println!(rt; "{count} numbers came in order")?;
     lines::show_file(rt)?;
     records::show_records(rt)?;
-    log::show_log(rt)?;
-    copying::show_copy(rt)?;
     refusal::show(rt)
 }

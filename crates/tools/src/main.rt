@@ -1,0 +1,73 @@
+//! Three programs over a pool each, for files and lines.
+#![tactic(auto)]
+
+mod cp;
+mod logd;
+mod walk;
+
+use anyhow::{Context, Result};
+use blocking::Host;
+use std::env;
+use std::fs::{File, Files, OpenOptions};
+use std::process::ExitCode;
+
+const USAGE: &str = "tools walk DIR..           the bytes of each tree, as `du -sb` tells them
+tools logd FILE            standard input at FILE's end; how many bytes are written is told as they are
+tools cp [--sync] FROM TO  a copy, with how far it is on standard error; --sync: it is on the disk";
+
+fn main(rt: HostRuntime) -> ExitCode {
+    match run(rt, rt) {
+        Ok(true) => ExitCode::from(0),
+        Ok(false) => {
+            let _ = rt.eprintln(USAGE);
+            ExitCode::from(2)
+        }
+        Err(why) => {
+            let _ = eprintln!(rt; "tools: {why:#}");
+            ExitCode::from(1)
+        }
+    }
+}
+
+// Does what the words say, and answers whether they say anything. (what runs on threads is generic over its handles)
+fn run<H: Host + Print + Eprint>(rt: H, system: HostRuntime) -> Result<bool> {
+    let mut words = Vec::new(rt.alloc());
+    for word in env::args(&system)?.skip(1) {
+        words.push(word)?;
+    }
+    let Some((name, rest)) = words.split_first() else {
+        return Ok(false);
+    };
+    match (name.as_str(), rest) {
+        ("--help", []) => println!(rt; "{USAGE}")?,
+        ("walk", [_, ..]) => walk::show(rt, system, rest)?,
+        ("logd", [path]) => {
+            let log = OpenOptions::new()
+                .append(true)
+                .create(true)
+                .open(&system, path.as_str())
+                .context("the log")?;
+            logd::log(rt, system.stdin(), log)?;
+        }
+        ("cp", [from, to]) => copy(rt, system, (from, to), false)?,
+        ("cp", [option, from, to]) if option.as_str() == "--sync" => {
+            copy(rt, system, (from, to), true)?;
+        }
+        _ => return Ok(false),
+    }
+    Ok(true)
+}
+
+// Copies a file to another, and tells how many bytes that were.
+fn copy<H: Host + Eprint>(
+    rt: H,
+    system: HostRuntime,
+    (from, to): (&String, &String),
+    is_synced: bool,
+) -> Result<()> {
+    let from = File::open(&system, from.as_str()).context("what is to be copied")?;
+    let to = File::create(&system, to.as_str()).context("the copy")?;
+    let copied = cp::copy(rt, from, to, is_synced)?;
+    eprintln!(rt; "{copied} bytes, all")?;
+    Ok(())
+}

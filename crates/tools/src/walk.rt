@@ -1,0 +1,80 @@
+//! How many bytes a tree has. Its directories are read on a pool, several at the same time.
+use anyhow::{Context, Result};
+use blocking::{Call, CallJob, Executor, Host, Task, unblock};
+use futures::executor::block_on;
+use std::path::PathBuf;
+use std::{fs, io};
+
+// How many directories are read at the same time at most.
+const READERS: &str = "16";
+
+// The bytes of what is in a directory, and the directories in it.
+#[derive(Drop)]
+struct Listed {
+    bytes: u64,
+    inside: Vec<PathBuf>,
+}
+
+// Reads a directory. (it holds the system's handles, since what a thread is handed may rest on no bound of a type)
+#[derive(Drop)]
+struct List {
+    files: HostRuntime,
+    path: PathBuf,
+}
+
+impl Call for List {
+    type Out = io::Result<Listed>;
+
+    ghost may_give = { λ _. Unit {0} };
+
+    fn call(self) -> io::Result<Listed> {
+        let List { files, path } = self;
+        let mut bytes = 0u64;
+        let mut inside = Vec::new(files.alloc());
+        for entry in fs::read_dir(&files, &path)? {
+            let entry = entry?;
+            let meta = entry.metadata()?;
+            bytes = bytes.saturating_add(meta.len());
+            if meta.is_dir() {
+                inside.push(entry.path().to_path_buf(files.alloc())?)?;
+            }
+        }
+        Ok(Listed { bytes, inside })
+    }
+}
+
+type Walkers<H> = Executor<CallJob<List, H>, H>;
+
+// The bytes of a tree, with those of its directories.
+fn bytes_of<H: Host>(rt: H, files: HostRuntime, executor: &Walkers<H>, root: &str) -> Result<u64> {
+    let mut bytes = fs::symlink_metadata(&files, root)?.len();
+    let mut tasks: Vec<Task<List, H>> = Vec::new(rt.alloc());
+    let path = PathBuf::from_str(rt.alloc(), root)?;
+    tasks.push(unblock(executor, List { files, path })?)?;
+    for _ in rt.forever() {
+        let Some(task) = tasks.pop() else {
+            break;
+        };
+        // (none was taken, which no contract of a vector says)
+        if task.is_taken() {
+            continue;
+        }
+        let listed = block_on(&rt, task)??;
+        bytes = bytes.saturating_add(listed.bytes);
+        for path in listed.inside {
+            tasks.push(unblock(executor, List { files, path })?)?;
+        }
+    }
+    Ok(bytes)
+}
+
+/// Prints the bytes of each tree, and its root.
+pub(crate) fn show<H: Host + Print>(rt: H, files: HostRuntime, roots: &[String]) -> Result<()> {
+    let executor: Walkers<H> = Executor::new(rt, Some(READERS))?;
+    for root in roots {
+        let root = root.as_str();
+        let bytes = bytes_of(rt, files, &executor, root).with_context(|| root)?;
+        println!(rt; "{bytes}\t{root}")?;
+    }
+    Ok(())
+}
