@@ -434,24 +434,42 @@ fn items_come_in_order_and_go_once(rt: HostRuntime) -> Result<(), Fail> {
 
 const MANY: u64 = 30_000;
 
+// So many where a thread is taken through its instructions one by one (`scripts/schedules --steps`).
+const FEW: u64 = 100;
+
 // How long the job lingers, and the owner.
 const PACES: &[(u64, u64)] = &[(0, 40), (10, 0), (3, 7)];
 
-// Each side waits for the other many times, and is woken.
-#[test]
-fn nobody_waits_for_good(rt: HostRuntime) -> Result<(), Fail> {
-    let executor: Executor<Sender<HostRuntime>, HostRuntime> = Executor::new(rt, Some("1"))?;
+// The plan by which not so many items come, if there is one. Each side waits for the other many times, and is woken.
+fn first_that_waits<H: Host>(rt: H, items: u64) -> Result<Option<Plan>, Fail> {
+    let executor: Executor<Sender<H>, H> = Executor::new(rt, Some("1"))?;
     for capacity in CAPACITIES {
         for (job_lingers, owner_lingers) in PACES {
             let plan = Plan {
                 capacity: *capacity,
-                sends: MANY,
-                takes: MANY + 1,
+                sends: items,
+                takes: items.saturating_add(1),
                 job_lingers: *job_lingers,
                 owner_lingers: *owner_lingers,
             };
-            assert_eq!(rt; come(rt, &executor, plan)?, (Some(MANY), true), "{plan:?}");
+            if come(rt, &executor, plan)? != (Some(items), true) {
+                return Ok(Some(plan));
+            }
         }
     }
+    Ok(None)
+}
+
+#[test]
+fn nobody_waits_for_good(rt: HostRuntime) -> Result<(), Fail> {
+    let waits = first_that_waits(rt, MANY)?;
+    assert!(rt; waits.is_none(), "{waits:?}");
+    Ok(())
+}
+
+#[test]
+fn nobody_waits_in_a_short_run(rt: HostRuntime) -> Result<(), Fail> {
+    let waits = first_that_waits(rt, FEW)?;
+    assert!(rt; waits.is_none(), "{waits:?}");
     Ok(())
 }
