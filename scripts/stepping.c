@@ -2,7 +2,7 @@
 
    stepping SEED TOLD PROGRAM WORD..
 
-   Behind some of its system calls a thread takes a drawn number of instructions one by one, and stands still behind one of 64 of them for a while:
+   Behind every other system call a thread takes a drawn number of instructions one by one, and stands still behind one of 32 of them for a while:
    so each place between two instructions of a short path comes about, as that between a look and what is told to others behind it. It ends with
    the status of the program. The descriptor TOLD is told how often a thread was held. */
 #define _GNU_SOURCE
