@@ -2,9 +2,9 @@
 
    stepping SEED TOLD PROGRAM WORD..
 
-   Behind every other system call a thread takes a drawn number of instructions one by one, and stands still behind one of 32 of them for a while:
-   so each place between two instructions of a short path comes about, as that between a look and what is told to others behind it. It ends with
-   the status of the program. The descriptor TOLD is told how often a thread was held. */
+   Behind about half of its system calls a thread takes a drawn number of instructions one by one, and stands still behind about one of 32 of them
+   for a while: so each place between two instructions of a short path comes about, as that between a look and what others are told behind it. It
+   ends with the status of the program, or with 125 where no program can be traced. The descriptor TOLD is told how often a thread was held. */
 #define _GNU_SOURCE
 #include <errno.h>
 #include <signal.h>
@@ -16,10 +16,10 @@
 #include <time.h>
 #include <unistd.h>
 
-/* A path has at most 2^LEAST to 2^MOST instructions. Behind one of so many a thread is held, for at most 2^LONGEST microseconds, mostly for less. */
+/* A path has at most 2^LEAST to 2^MOST instructions. A thread is held behind about one of ONE_OF, for at most 2^LONGEST microseconds. */
 enum { MOST_THREADS = 64, LEAST = 9, MOST = 11, ONE_OF = 32, LONGEST = 10 };
 
-/* What a stop of a thread tells that was made by a system call, and where the next one's mode is kept. */
+/* The signal of a stop at a system call. */
 #define OF_A_CALL (SIGTRAP | 0x80)
 
 struct thread {
@@ -70,7 +70,7 @@ static void forget(pid_t id) {
         if (threads[at].id == id) threads[at] = threads[--count];
 }
 
-/* Lets a thread go on, to its next instruction or system call. (one that is gone meanwhile is told of by a wait) */
+/* Lets a thread go on, to its next instruction or system call. (where it is gone, a wait says so) */
 static void go_on(struct thread *thread, int signal) {
     ptrace(thread->steps > 0 ? PTRACE_SINGLESTEP : PTRACE_SYSCALL, thread->id, NULL, (long)signal);
 }
@@ -78,7 +78,8 @@ static void go_on(struct thread *thread, int signal) {
 /* Behind a system call: how many instructions are taken one by one. */
 static unsigned long path(void) {
     if (draw() % 2 != 0) return 0;
-    return 1 + draw() % (1UL << (LEAST + draw() % (MOST - LEAST + 1)));
+    unsigned long most = 1UL << (LEAST + draw() % (MOST - LEAST + 1));
+    return 1 + draw() % most;
 }
 
 /* What is done where a thread has stopped. */
@@ -90,16 +91,21 @@ static void stopped(struct thread *thread, int status) {
         go_on(thread, 0);
     } else if (why == SIGTRAP && status >> 16 == 0 && thread->steps > 0) {
         thread->steps--;
-        if (draw() % ONE_OF != 0) return go_on(thread, 0);
+        if (draw() % ONE_OF != 0) {
+            go_on(thread, 0);
+            return;
+        }
+        unsigned long longest = 1UL << draw() % (LONGEST + 1);
         thread->is_held = 1;
-        thread->until = now() + draw() % (1UL << draw() % (LONGEST + 1));
+        thread->until = now() + draw() % longest;
         holds++;
     } else {
-        /* (a new thread begins with a stop, and one that begets another tells it) */
+        /* (a new thread begins with a stop, and the one that started it stops too) */
         go_on(thread, why == SIGTRAP || why == SIGSTOP ? 0 : why);
     }
 }
 
+/* Lets those go on that were held for long enough, and answers how many are held yet. */
 static int let_go(void) {
     int held = 0;
     long time = now();
@@ -137,16 +143,16 @@ static int watch(pid_t program) {
     }
 }
 
-int main(int words, char **word) {
-    if (words < 4) return 125;
-    drawn = strtoul(word[1], NULL, 10) * 0x2545f4914f6cdd1d;
-    int told = atoi(word[2]);
+int main(int argc, char **argv) {
+    if (argc < 4) return 125;
+    drawn = strtoul(argv[1], NULL, 10) * 0x2545f4914f6cdd1d;
+    int told = atoi(argv[2]);
     pid_t program = fork();
     if (program < 0) fail("stepping: fork");
     if (program == 0) {
         if (ptrace(PTRACE_TRACEME, 0, NULL, NULL) != 0) fail("stepping: ptrace");
-        execvp(word[3], word + 3);
-        fail(word[3]);
+        execvp(argv[3], argv + 3);
+        fail(argv[3]);
     }
     int status;
     if (waitpid(program, &status, 0) < 0) fail("stepping: waitpid");

@@ -150,8 +150,10 @@ fn pair_meets<H: Host>(
 // How many milliseconds a round lasts at least whose second call waits until its worker's wait times out, which is after 500 milliseconds.
 const LATE: u64 = 400;
 
-// The round that is the last of so many.
-const ROUNDS: u64 = 2_000;
+// How many rounds are played, and how many of them a machine with much else to do may hold up.
+const ROUNDS: u64 = 6_000;
+
+const MAY_BE_LATE: u32 = 1;
 
 // How many rounds last long; None where the calls of one don't meet.
 fn late_rounds<H: Host>(rt: H) -> io::Result<Option<u32>> {
@@ -176,20 +178,12 @@ fn late_rounds<H: Host>(rt: H) -> io::Result<Option<u32>> {
     Ok(Some(late))
 }
 
-// How often all rounds are played, where a machine with much else to do holds one up.
-const PLAYS: u32 = 3;
-
 // (the calls of a round find their workers idle, asleep or looking, as the round before left them)
 #[test]
 fn two_calls_run_at_once(rt: HostRuntime) -> Result<(), Fail> {
-    for _ in 0..PLAYS {
-        let late = late_rounds(rt)?;
-        assert!(rt; late.is_some());
-        if late == Some(0) {
-            return Ok(());
-        }
-    }
-    panic!(rt; "the calls of some rounds meet late")
+    let late = late_rounds(rt)?;
+    assert!(rt; late.is_some_and(|late| late <= MAY_BE_LATE));
+    Ok(())
 }
 
 const SLOW: Row = (

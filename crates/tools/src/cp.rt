@@ -1,7 +1,7 @@
 //! A copy that shows how far it is. Who copies polls, and two jobs of one pool read and write.
 ghost use Rattle.std.specs.Prelude.{◌≡◌};
 
-use anyhow::Result;
+use anyhow::{Result, ensure};
 use blocking::{
     AsyncRead, AsyncWrite, CallOn, Copier, CopyFault, Executor, Host, Jobs, Reader, Unblock,
     Unused, Writer,
@@ -12,12 +12,12 @@ use futures::task::{Context, Poll};
 use std::fs::File;
 use std::io;
 
-// How many bytes are read at once, and behind how many each it is shown how far the copy is.
+// How many bytes are read at once, and behind how many each the progress is shown.
 const PIECE: usize = 65_536;
 
 const PART: u64 = 16_777_216;
 
-// Has what was written to a file on the disk, which a flush doesn't.
+// Has the bytes of a file on the disk, which a flush doesn't.
 #[derive(Drop)]
 struct SyncAll;
 
@@ -34,7 +34,7 @@ impl CallOn<File> for SyncAll {
 // The pool's jobs: one reads, one writes, and one has it on the disk.
 type Work<H> = Jobs<H, Unused, File, File, Unused, Unused, SyncAll, File>;
 
-// A copy that prints a line behind each part, as soon as that is written. How many parts were shown is counted.
+// A copy that shows its progress where a poll has come to another part.
 #[derive(Drop)]
 struct ShownCopy<A, B, P> {
     copier: Copier<A, B>,
@@ -47,7 +47,6 @@ impl<A: AsyncRead + Drop, B: AsyncWrite + Drop, P: Eprint + Drop> Future for Sho
 
     ghost can_poll = { λ copy. ⟦<Copier<A, B> as Future>⟧.can_poll copy.copier };
 
-    // (what a copy's answer says of its bytes is known of the copier alone)
     ghost gives = { λ _ _. Unit {0} };
 
     fn poll(&mut self, cx: &mut Context<'_>) -> Poll<Result<u64, CopyFault>> {
@@ -55,7 +54,6 @@ impl<A: AsyncRead + Drop, B: AsyncWrite + Drop, P: Eprint + Drop> Future for Sho
         let parts = self.copier.copied() / PART;
         if parts > self.shown {
             self.shown = parts;
-            // (a line that can't be printed is no reason to end a copy)
             let _ = eprintln!(self.rt; "{} bytes", self.copier.copied());
         }
         polled
@@ -74,7 +72,8 @@ pub(crate) fn copy<H: Host + Eprint>(rt: H, from: File, to: File, is_synced: boo
     };
     let copied = block_on(&rt, &mut copy)??;
     let (_, mut writer) = copy.copier.into_parts();
-    if is_synced && !writer.is_closed() {
+    if is_synced {
+        ensure!(!writer.is_closed(), "the copy is closed");
         block_on(&rt, writer.with_mut(SyncAll))???;
     }
     Ok(copied)

@@ -1,5 +1,5 @@
 //! A log of what several producers write to one pipe. What was told as written is in the file, whatever becomes of this process.
-use anyhow::Result;
+use anyhow::{Result, bail};
 use blocking::{
     AsyncRead, AsyncReadExt, AsyncWrite, AsyncWriteExt, CopyJobs, Executor, Host, Reader, Unblock,
     Writer,
@@ -38,8 +38,9 @@ where
     let mut log: Writer<W, H, CopyJobs<H, R, W>> = Unblock::new(executor, log);
     let mut logged = 0usize;
     for _ in rt.forever() {
+        // (neither was closed, which no contract of a future says)
         if input.is_closed() || log.is_closed() {
-            break;
+            bail!("the log is closed");
         }
         let count = log_next(rt, &mut input, &mut log)?;
         if count == 0 {

@@ -5,15 +5,17 @@ mod cp;
 mod logd;
 mod walk;
 
-use anyhow::{Context, Result};
+use anyhow::{Context, Result, ensure};
 use blocking::Host;
 use std::env;
-use std::fs::{File, Files, OpenOptions};
+use std::fs::{File, OpenOptions};
+use std::os::unix::fs::MetadataExt;
 use std::process::ExitCode;
 
-const USAGE: &str = "tools walk DIR..           the bytes of each tree, as `du -sb` tells them
-tools logd FILE            standard input at FILE's end; how many bytes are written is told as they are
-tools cp [--sync] FROM TO  a copy, with how far it is on standard error; --sync: it is on the disk";
+const USAGE: &str =
+    "tools walk PATH..          prints how many bytes each tree has, as `du -sb` does
+tools logd FILE            appends standard input to FILE, and prints how many bytes are written so far
+tools cp [--sync] FROM TO  copies a file, and shows progress on standard error; --sync: its bytes are on the disk";
 
 fn main(rt: HostRuntime) -> ExitCode {
     match run(rt, rt) {
@@ -58,7 +60,7 @@ fn run<H: Host + Print + Eprint>(rt: H, system: HostRuntime) -> Result<bool> {
     Ok(true)
 }
 
-// Copies a file to another, and tells how many bytes that were.
+// Copies a file to another, which isn't the same, and tells how many bytes that were.
 fn copy<H: Host + Eprint>(
     rt: H,
     system: HostRuntime,
@@ -66,8 +68,19 @@ fn copy<H: Host + Eprint>(
     is_synced: bool,
 ) -> Result<()> {
     let from = File::open(&system, from.as_str()).context("what is to be copied")?;
-    let to = File::create(&system, to.as_str()).context("the copy")?;
+    // (it is emptied once it is known to be another file)
+    let to = OpenOptions::new()
+        .write(true)
+        .create(true)
+        .open(&system, to.as_str())
+        .context("the copy")?;
+    let (source, target) = (from.metadata()?, to.metadata()?);
+    ensure!(
+        (source.dev(), source.ino()) != (target.dev(), target.ino()),
+        "the copy: it is the same file"
+    );
+    to.set_len(0).context("the copy")?;
     let copied = cp::copy(rt, from, to, is_synced)?;
-    eprintln!(rt; "{copied} bytes, all")?;
+    eprintln!(rt; "{copied} bytes copied")?;
     Ok(())
 }

@@ -1,5 +1,5 @@
 //! How many bytes a tree has. Its directories are read on a pool, several at the same time.
-use anyhow::{Context, Result};
+use anyhow::{Context, Result, ensure};
 use blocking::{Call, CallJob, Executor, Host, Task, unblock};
 use futures::executor::block_on;
 use std::path::PathBuf;
@@ -15,7 +15,7 @@ struct Listed {
     inside: Vec<PathBuf>,
 }
 
-// Reads a directory. (it holds the system's handles, since what a thread is handed may rest on no bound of a type)
+// Reads a directory. (it holds the system's handles: what a thread is handed may rest on no bound of a type)
 #[derive(Drop)]
 struct List {
     files: HostRuntime,
@@ -28,15 +28,14 @@ impl Call for List {
     ghost may_give = { λ _. Unit {0} };
 
     fn call(self) -> io::Result<Listed> {
-        let List { files, path } = self;
-        let mut bytes = 0u64;
-        let mut inside = Vec::new(files.alloc());
-        for entry in fs::read_dir(&files, &path)? {
+        let alloc = self.files.alloc();
+        let (mut bytes, mut inside) = (0u64, Vec::new(alloc));
+        for entry in fs::read_dir(&self.files, &self.path)? {
             let entry = entry?;
             let meta = entry.metadata()?;
             bytes = bytes.saturating_add(meta.len());
             if meta.is_dir() {
-                inside.push(entry.path().to_path_buf(files.alloc())?)?;
+                inside.push(entry.path().to_path_buf(alloc)?)?;
             }
         }
         Ok(Listed { bytes, inside })
@@ -47,18 +46,18 @@ type Walkers<H> = Executor<CallJob<List, H>, H>;
 
 // The bytes of a tree, with those of its directories.
 fn bytes_of<H: Host>(rt: H, files: HostRuntime, executor: &Walkers<H>, root: &str) -> Result<u64> {
-    let mut bytes = fs::symlink_metadata(&files, root)?.len();
+    let meta = fs::symlink_metadata(&files, root)?;
+    let mut bytes = meta.len();
     let mut tasks: Vec<Task<List, H>> = Vec::new(rt.alloc());
-    let path = PathBuf::from_str(rt.alloc(), root)?;
-    tasks.push(unblock(executor, List { files, path })?)?;
+    if meta.is_dir() {
+        let path = PathBuf::from_str(rt.alloc(), root)?;
+        tasks.push(unblock(executor, List { files, path })?)?;
+    }
     for _ in rt.forever() {
         let Some(task) = tasks.pop() else {
             break;
         };
-        // (none was taken, which no contract of a vector says)
-        if task.is_taken() {
-            continue;
-        }
+        ensure!(!task.is_taken(), "a task has given its value");
         let listed = block_on(&rt, task)??;
         bytes = bytes.saturating_add(listed.bytes);
         for path in listed.inside {
