@@ -7,10 +7,10 @@ mod walk;
 
 use anyhow::{Context, Result, ensure};
 use blocking::Host;
-use std::env;
 use std::fs::{File, OpenOptions};
 use std::os::unix::fs::MetadataExt;
 use std::process::ExitCode;
+use std::{env, fs};
 
 const USAGE: &str =
     "tools walk PATH..          prints how many bytes each tree has, as `du -sb` does
@@ -68,18 +68,15 @@ fn copy<H: Host + Eprint>(
     is_synced: bool,
 ) -> Result<()> {
     let from = File::open(&system, from.as_str()).context("what is to be copied")?;
-    // (it is emptied once it is known to be another file)
-    let to = OpenOptions::new()
-        .write(true)
-        .create(true)
-        .open(&system, to.as_str())
-        .context("the copy")?;
-    let (source, target) = (from.metadata()?, to.metadata()?);
-    ensure!(
-        (source.dev(), source.ino()) != (target.dev(), target.ino()),
-        "the copy: it is the same file"
-    );
-    to.set_len(0).context("the copy")?;
+    // (to create it would empty it)
+    if let Ok(target) = fs::metadata(&system, to.as_str()) {
+        let source = from.metadata()?;
+        ensure!(
+            (source.dev(), source.ino()) != (target.dev(), target.ino()),
+            "the copy: it is the same file"
+        );
+    }
+    let to = File::create(&system, to.as_str()).context("the copy")?;
     let copied = cp::copy(rt, from, to, is_synced)?;
     eprintln!(rt; "{copied} bytes copied")?;
     Ok(())
