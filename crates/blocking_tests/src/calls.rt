@@ -155,6 +155,9 @@ const ROUNDS: u64 = 6_000;
 
 const MAY_BE_LATE: u32 = 1;
 
+// For how many seconds they are played at most: such a machine plays fewer.
+const SECONDS: u64 = 20;
+
 // How many rounds last long; None where the calls of one don't meet.
 fn late_rounds<H: Host>(rt: H) -> io::Result<Option<u32>> {
     let Ok(executor) = Executor::new(rt, Some("2")) else {
@@ -165,7 +168,11 @@ fn late_rounds<H: Host>(rt: H) -> io::Result<Option<u32>> {
         second: Arc::new(rt.alloc(), AtomicU64::new(0))?,
     };
     let mut late = 0u32;
+    let begun = Instant::now(&rt)?;
     for round in 1..=ROUNDS {
+        if begun.elapsed(&rt)? >= Duration::from_secs(SECONDS) {
+            break;
+        }
         let start = Instant::now(&rt)?;
         if !pair_meets(&rt, &executor, &pair, round)? {
             return Ok(None);
