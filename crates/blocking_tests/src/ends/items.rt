@@ -434,7 +434,7 @@ fn items_come_in_order_and_go_once(rt: HostRuntime) -> Result<(), Fail> {
 
 const MANY: u64 = 30_000;
 
-// So many where a thread is taken through its instructions one by one (`scripts/schedules --steps`).
+// So many where threads are held before atomic instructions (`scripts/schedules --holds`).
 const FEW: u64 = 100;
 
 // How long the job lingers, and the owner.
