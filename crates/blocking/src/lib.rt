@@ -18,6 +18,8 @@
 //! - **A copy**: a [`Copier`] over both is ready once all that was read is written and flushed.
 //!
 //! The jobs of an executor are one type. Where it runs calls of one type alone that is [`CallJob`]; [`Jobs`] has a variant for each kind.
+//!
+//! What the ends of a pipe answer stands in [`pipe`], and what a pool does in [`pool`].
 #![tactic(auto)]
 
 mod jobs;
@@ -33,6 +35,7 @@ pub use blocking_core::pool::{
     Carries, Job, JobNo, JobStep, Refusal, Refused, StartRefused, Starter, WakeNote,
 };
 pub use blocking_core::task::{Call, CallOn};
+pub use blocking_core::{pipe, pool};
 pub use blocking_ends::{
     AnyPlace, Closed, DrainEnd, FillEnd, ItemRecvEnd, ItemSendEnd, ItemSending, JobSeated,
     OwnerWaker, PeekEnd, PieceMemory, PlaceRule, RecvEnd, SeenEnd, SeenShut, SendEnd, ToldEnd,
@@ -40,8 +43,8 @@ pub use blocking_ends::{
     unlink_in,
 };
 pub use blocking_executor::{
-    CallJob, Cancel, Counts, Ended, Executor, Held, Host, Runtime, Task, ThreadStarter, executor,
-    job, set_max_blocking_threads, task, unblock,
+    CallJob, Cancel, Counts, Ended, Executor, Held, Host, Runtime, Task, ThreadStarter, job,
+    set_max_blocking_threads, task, unblock,
 };
 pub use blocking_io::{
     AsyncRead, AsyncReadExt, AsyncSeek, AsyncSeekExt, AsyncWrite, AsyncWriteExt, Close, Copier,
