@@ -112,13 +112,14 @@ fn in_order<H: Host>(rt: H, capacity: usize, end: u64) -> io::Result<Option<u64>
     block_on(&rt, InOrder { rt, items, came: 0 })
 }
 
-const MANY: u64 = 100_000;
+// How many items come, by the capacity. (at capacity 1 each is waited for)
+const MANY: [(usize, u64); 3] = [(1, 20_000), (100, 100_000), (0, 100_000)];
 
 #[test]
 fn many_items_come_in_order(rt: HostRuntime) -> Result<(), Fail> {
-    for capacity in [1, 100, 0] {
-        let came = in_order(rt, capacity, MANY)?;
-        assert_eq!(rt; came, Some(MANY), "at capacity {capacity}");
+    for (capacity, many) in MANY {
+        let came = in_order(rt, capacity, many)?;
+        assert_eq!(rt; came, Some(many), "at capacity {capacity}");
     }
     Ok(())
 }

@@ -1,6 +1,6 @@
 //! Each call of an owner, left where it waits, with each other call after it, wherever the job of its session stands, with stray wakes of every job
-//! and without: the run goes on to the right reply.
-use blocking_core::io::Position;
+//! and without: the run goes on to the right reply. The handle may fail or end at a call, and a stop may be under way before.
+use blocking_core::io::{Fault, Position};
 use blocking_laws::bytes::Bytes;
 use blocking_laws::event::{Act, Event, Reply};
 use blocking_laws::step::{Answer, HandleCall, Step};
@@ -30,11 +30,55 @@ const CALLS: [Call; 9] = [
     Read, Write, Next, Seek, Operate, Flush, Close, Handle, Inner,
 ];
 
-// A session; after how many acts of its job and of the worker a call is left; whether stray wakes come there, and between the steps behind;
-// the call that is left, and the one after it.
+// What goes wrong with the handle of a session. Else each answer to its job is the number 1, one byte, the item 1, or that it was flushed.
+#[derive(Clone, Copy)]
+enum Trouble {
+    Nothing,
+    // The answer of this number, from 0, is a fault.
+    Fails(u64),
+    // So is each from that of this number on.
+    FailsOn(u64),
+    // The answer of this number says that nothing is left, or that none of the bytes were taken.
+    Ends(u64),
+}
+
+use Trouble::{Ends, Fails, FailsOn, Nothing};
+
+// What may go wrong at each of the first calls of a handle. (an operation doesn't fail)
+const FINE: &[Trouble] = &[Nothing];
+
+const FAILS: &[Trouble] = &[Fails(0), Fails(1), Fails(2)];
+
+const FAILS_ON: &[Trouble] = &[FailsOn(0), FailsOn(1), FailsOn(2)];
+
+const ENDS: &[Trouble] = &[Ends(0), Ends(1), Ends(2)];
+
+// With which cases stray wakes come.
+#[derive(Clone, Copy)]
+enum Strays {
+    Without,
+    With,
+    // With every other one.
+    ByTurns,
+}
+
+// The session with which a case begins.
+#[derive(Clone, Copy)]
+struct Session {
+    // The call that it is for.
+    call: Call,
+    // What goes wrong with its handle.
+    trouble: Trouble,
+    // After how many acts of its job and of the worker a call for the handle stops it, and is left, if one does.
+    stop: Option<usize>,
+    strays: Strays,
+}
+
+// A session; after how many acts of its job and of the worker a call is left; whether stray wakes come there, and between the steps behind; the call that
+// is left, and the one after it.
 #[derive(Clone, Copy)]
 struct Case {
-    session: Call,
+    session: Session,
     acts: usize,
     has_strays: bool,
     first: Call,
@@ -45,28 +89,119 @@ struct Case {
 const ACTS: usize = 15;
 
 // How many cases there are of a session.
-const CASES: usize = 9 * 9 * ACTS * 2;
-
-// The case of this number; None beyond the last.
-fn case_of(session: Call, number: usize) -> Option<Case> {
-    Some(Case {
-        session,
-        second: *CALLS.get(number % 9)?,
-        first: *CALLS.get(number / 9 % 9)?,
-        acts: number / 81 % ACTS,
-        has_strays: number / 81 / ACTS > 0,
-    })
-}
+const CASES: usize = 9 * 9 * ACTS;
 
 impl Case {
-    // What the second call must reply, where this came of the first: none of an owner who is gone, or was asked for its handle for good, and of a
-    // closed one only to a flush and a close.
-    fn reply(self, first: Option<Reply>) -> Option<Reply> {
+    // The case of this number; None beyond the last.
+    fn of(session: Session, number: usize) -> Option<Case> {
+        Some(Case {
+            session,
+            acts: number / 81 % ACTS,
+            has_strays: match session.strays {
+                Strays::Without => false,
+                Strays::With => true,
+                Strays::ByTurns => number % 2 > 0,
+            },
+            first: *CALLS.get(number / 9 % 9)?,
+            second: *CALLS.get(number % 9)?,
+        })
+    }
+
+    // Whether the second call may be made, where this came of the first: none of an owner who is gone, or was asked for its handle for good, and of a
+    // closed one only a flush and a close.
+    fn may_follow(self, first: Option<Reply>) -> bool {
         match (self.first, self.second) {
-            (Inner, _) if first.is_some() => None,
-            (Inner, second) if second != Inner => None,
-            (Close, second) if first.is_some() && !matches!(second, Flush | Close) => None,
-            (_, second) => Some(second.reply()),
+            (Inner, second) => first.is_none() && second == Inner,
+            (Close, second) => first != Some(Reply::Okay) || matches!(second, Flush | Close),
+            _ => true,
+        }
+    }
+}
+
+// What was seen of the session with which a case begins.
+#[derive(Clone, Copy)]
+struct Seen {
+    // How many answers its job was given.
+    answers: u64,
+    // How many of them were bytes or items, and how many of these the owner got.
+    came: u64,
+    got: u64,
+    // Whether one said that nothing is left.
+    is_at_end: bool,
+    // The first fault.
+    fault: Option<Fault<u64>>,
+    // Whether a call stopped it.
+    is_stopped: bool,
+    // Whether the job's end of the pipe is closed.
+    is_closed: bool,
+    // Whether the handle came back to its owner.
+    is_back: bool,
+}
+
+impl Seen {
+    fn new() -> Seen {
+        Seen {
+            answers: 0,
+            came: 0,
+            got: 0,
+            is_at_end: false,
+            fault: None,
+            is_stopped: false,
+            is_closed: false,
+            is_back: false,
+        }
+    }
+
+    fn see_fault(&mut self, fault: Fault<u64>) {
+        if self.fault.is_none() {
+            self.fault = Some(fault);
+        }
+    }
+
+    fn see_answer(&mut self, session: Call, answer: &Answer) {
+        self.answers = self.answers.saturating_add(1);
+        match answer {
+            Answer::Failed(error) => self.see_fault(Fault::Io(*error)),
+            Answer::Number(0) if session == Write => self.see_fault(Fault::WriteZero),
+            Answer::Gave(bytes) if bytes.as_slice().is_empty() => self.is_at_end = true,
+            Answer::NoItem => self.is_at_end = true,
+            Answer::Gave(_) | Answer::Item(_) => self.came = self.came.saturating_add(1),
+            _ => {}
+        }
+    }
+
+    // Takes note of an event, until the session is over.
+    fn see(&mut self, session: Call, event: &Event) {
+        if self.is_back {
+            return;
+        }
+        match &event.act {
+            Act::Answered(answer) => self.see_answer(session, answer),
+            Act::Got(_, _) | Act::GotItem(_, _) => self.got = self.got.saturating_add(1),
+            Act::JobClosed(_) => self.is_closed = true,
+            Act::Back => self.is_back = true,
+            _ => {}
+        }
+    }
+
+    // What a call replies that goes on with the session, where the owner had got so much before; None where it has to wait.
+    fn reply_of_own(self, call: Call, got: u64) -> Option<Reply> {
+        match (call, self.fault) {
+            (Write, _) if self.is_closed => Some(Reply::Count(0)),
+            (Write, _) => Some(call.reply()),
+            _ if self.came > got => Some(call.reply()),
+            (Read, Some(fault)) => Some(Reply::Failed(fault)),
+            (Read, None) if self.is_at_end => Some(Reply::Count(0)),
+            (Next, _) if self.is_at_end => Some(Reply::NoMore),
+            _ => None,
+        }
+    }
+
+    // What a call replies that stops the session, or waits for its end.
+    fn reply_of_stop(self, call: Call) -> Reply {
+        match (call, self.fault) {
+            (Read | Write | Seek | Flush | Close, Some(fault)) => Reply::Failed(fault),
+            _ => call.reply(),
         }
     }
 }
@@ -97,7 +232,7 @@ impl Call {
         Ok(Step::Ask(0, call))
     }
 
-    // What it replies, where each answer to a job is the number 1, or one byte, or the item 1.
+    // What it replies where nothing goes wrong.
     fn reply(self) -> Reply {
         match self {
             Read | Write | Seek | Operate => Reply::Count(1),
@@ -106,20 +241,43 @@ impl Call {
             Handle | Inner => Reply::Handle,
         }
     }
+
+    // Whether it goes on with a session of this kind that isn't stopped.
+    fn goes_on_in(self, session: Call) -> bool {
+        self == session && matches!(session, Read | Write | Next)
+    }
 }
 
-// The steps of the worker and its job, of which those have an action that are next, as often as they are taken in turn.
-fn turn(alloc: Global, place: usize) -> Result<Step, AllocError> {
-    Ok(match place % 8 {
-        0 => Step::Arrive,
-        1 => Step::Take(1),
-        2 => Step::Job(1),
-        3 => Step::Io(1, Answer::Gave(bytes(alloc, 1)?)),
-        4 => Step::Io(1, Answer::Number(1)),
-        5 => Step::Io(1, Answer::Item(1)),
-        6 => Step::Io(1, Answer::Fine),
-        _ => Step::End(1),
-    })
+impl Trouble {
+    fn fails_at(self, number: u64) -> bool {
+        match self {
+            Fails(at) => number == at,
+            FailsOn(first) => number >= first,
+            Nothing | Ends(_) => false,
+        }
+    }
+
+    fn ends_at(self, number: u64) -> bool {
+        match self {
+            Ends(at) => number == at,
+            _ => false,
+        }
+    }
+
+    // The answer of this number, in each form: only that has an action for which the job asked.
+    fn answer(self, alloc: Global, number: u64, form: usize) -> Result<Answer, AllocError> {
+        if self.fails_at(number) {
+            return Ok(Answer::Failed(number));
+        }
+        let is_end = self.ends_at(number);
+        Ok(match form {
+            0 => Answer::Gave(bytes(alloc, if is_end { 0 } else { 1 })?),
+            1 => Answer::Number(if is_end { 0 } else { 1 }),
+            2 if is_end => Answer::NoItem,
+            2 => Answer::Item(1),
+            _ => Answer::Fine,
+        })
+    }
 }
 
 // What a poll of the owner replied, if it did.
@@ -145,7 +303,9 @@ fn is_nothing(events: &[Event]) -> bool {
 struct Play<'a> {
     alloc: Global,
     world: &'a mut World,
+    session: Session,
     has_strays: bool,
+    seen: Seen,
 }
 
 // More actions than a poll has.
@@ -155,10 +315,45 @@ const POLL: u32 = 20;
 const ROUNDS: u32 = 40;
 
 impl Play<'_> {
+    // Takes a step, and answers what is seen of it.
+    fn run(&mut self, step: Step) -> Result<Vec<Event>, AllocError> {
+        let events = run(self.alloc, self.world, &[step])?;
+        for event in events.as_slice() {
+            self.seen.see(self.session.call, event);
+        }
+        Ok(events)
+    }
+
     // Takes a step. Whether it had an action.
     fn take(&mut self, step: Step) -> Result<bool, AllocError> {
-        let events = run(self.alloc, self.world, &[step])?;
+        let events = self.run(step)?;
         Ok(!is_nothing(&events))
+    }
+
+    // What the handle answers, in one of four forms: as it does in trouble until it is back.
+    fn answer(&self, form: usize) -> Result<Answer, AllocError> {
+        let trouble = if self.seen.is_back {
+            Nothing
+        } else {
+            self.session.trouble
+        };
+        trouble.answer(self.alloc, self.seen.answers, form)
+    }
+
+    // Lets the worker or its job act once: only one of these steps has an action. Whether one has. (a worker that finds no job doesn't act)
+    fn act_once(&mut self) -> Result<bool, AllocError> {
+        if self.world.has_job_action(1) {
+            return self.take(Step::Job(1));
+        }
+        if self.world.queue_len() > 0 && (self.take(Step::Take(1))? || self.take(Step::Arrive)?) {
+            return Ok(true);
+        }
+        for form in 0..4 {
+            if self.take(Step::Io(1, self.answer(form)?))? {
+                return Ok(true);
+            }
+        }
+        self.take(Step::End(1))
     }
 
     // Wakes each job twice, by nobody in particular, where that is wanted.
@@ -177,38 +372,22 @@ impl Play<'_> {
 
     // Lets the worker and its job act so often. Whether they could.
     fn act(&mut self, acts: usize) -> Result<bool, AllocError> {
-        let mut done = 0usize;
-        let mut idle = 0usize;
-        for place in 0..ACTS * 8 {
-            if done >= acts || idle >= 8 {
-                break;
-            }
-            if self.take(turn(self.alloc, place)?)? {
-                done = done.saturating_add(1);
-                idle = 0;
-            } else {
-                idle = idle.saturating_add(1);
+        for _ in 0..acts {
+            if !self.act_once()? {
+                return Ok(false);
             }
         }
-        Ok(done >= acts)
+        Ok(true)
     }
 
-    // Lets the job act by itself as long as it can.
-    fn job(&mut self) -> Result<(), AllocError> {
+    // Lets the worker and its job act once, and the job then by itself as long as it can, with stray wakes behind that.
+    fn work(&mut self) -> Result<(), AllocError> {
+        self.act_once()?;
         for _ in 0..POLL {
             if !self.world.has_job_action(1) {
                 break;
             }
             self.take(Step::Job(1))?;
-        }
-        Ok(())
-    }
-
-    // Gives the worker and its job each step once, and stray wakes behind them.
-    fn work(&mut self) -> Result<(), AllocError> {
-        for place in 0..8 {
-            self.take(turn(self.alloc, place)?)?;
-            self.job()?;
         }
         self.stray()
     }
@@ -216,11 +395,14 @@ impl Play<'_> {
     // Makes a poll, and answers its reply; None where it waits or may not be made.
     fn polls(&mut self, call: Call, is_again: bool) -> Result<Option<Reply>, AllocError> {
         self.take(call.asked(self.alloc, is_again)?)?;
+        if !call.goes_on_in(self.session.call) {
+            self.seen.is_stopped = true;
+        }
         for _ in 0..POLL {
             if !self.world.poll_under_way(0) {
                 return Ok(None);
             }
-            let events = run(self.alloc, self.world, &[Step::Own(0)])?;
+            let events = self.run(Step::Own(0))?;
             if let Some(reply) = replied(&events) {
                 return Ok(Some(reply));
             }
@@ -239,30 +421,70 @@ impl Play<'_> {
         Ok(None)
     }
 
-    // Begins a session, whose call is polled twice: what is written fills the pipe so.
-    fn begin(&mut self, session: Call) -> Result<(), AllocError> {
+    // Begins the session, whose call is polled twice: what is written fills the pipe so. Then that may be stopped. Whether the job acts so often before.
+    fn begin(&mut self) -> Result<bool, AllocError> {
+        let Session { call, stop, .. } = self.session;
         self.take(Step::New(2))?;
-        self.polls(session, false)?;
-        self.polls(session, true)?;
-        Ok(())
+        self.polls(call, false)?;
+        self.polls(call, true)?;
+        let Some(acts) = stop else {
+            return Ok(true);
+        };
+        if !self.act(acts)? {
+            return Ok(false);
+        }
+        self.polls(Handle, false)?;
+        Ok(true)
+    }
+
+    // Whether the worker has nothing to do: each job is parked or over.
+    fn rests(&self) -> bool {
+        self.world.queue_len() == 0 && self.world.idle_count() == self.world.thread_count()
+    }
+
+    // What a call must reply that was asked when this was seen: nothing is left of a session that was over before.
+    fn wanted(&self, call: Call, before: Seen) -> Option<Reply> {
+        if before.is_back {
+            return Some(call.reply());
+        }
+        if call.goes_on_in(self.session.call) && !before.is_stopped {
+            return self.seen.reply_of_own(call, before.got);
+        }
+        Some(self.seen.reply_of_stop(call))
+    }
+
+    // Whether the first call waits, or replies as it must; None where it waits.
+    fn leaves(&mut self, call: Call) -> Result<(bool, Option<Reply>), AllocError> {
+        let before = self.seen;
+        let first = self.polls(call, false)?;
+        let is_right = first.is_none() || first == self.wanted(call, before);
+        Ok((is_right, first))
+    }
+
+    // Whether the second call replies as it must.
+    fn follows(&mut self, call: Call) -> Result<bool, AllocError> {
+        let before = self.seen;
+        let second = self.answers(call)?;
+        Ok(second.is_some() && second == self.wanted(call, before))
     }
 
     // Whether a case goes as it must.
     fn is_right(&mut self, case: Case) -> Result<bool, AllocError> {
-        self.begin(case.session)?;
-        // (so many acts have no further place)
-        if !self.act(case.acts)? {
-            return Ok(true);
+        // (a job that parks or is over acts no more)
+        if !self.begin()? || !self.act(case.acts)? {
+            return Ok(self.rests());
         }
         self.stray()?;
-        let first = self.polls(case.first, false)?;
+        let (is_right, first) = self.leaves(case.first)?;
         self.stray()?;
-        let wanted = case.reply(first);
-        let second = match wanted {
-            Some(_) => self.answers(case.second)?,
-            None => self.polls(case.second, false)?,
-        };
-        Ok(second == wanted && first.is_none_or(|reply| reply == case.first.reply()))
+        if !is_right {
+            return Ok(false);
+        }
+        if case.may_follow(first) {
+            self.follows(case.second)
+        } else {
+            Ok(self.polls(case.second, false)?.is_none())
+        }
     }
 }
 
@@ -272,7 +494,9 @@ fn is_right(alloc: Global, case: Case) -> Result<bool, AllocError> {
     let mut play = Play {
         alloc,
         world: &mut world,
+        session: case.session,
         has_strays: case.has_strays,
+        seen: Seen::new(),
     };
     let outcome = play.is_right(case);
     drop(play);
@@ -280,46 +504,184 @@ fn is_right(alloc: Global, case: Case) -> Result<bool, AllocError> {
     outcome
 }
 
-// The first case of a session that doesn't go as it must: its number, and both calls.
-fn first_wrong(alloc: Global, session: Call) -> Result<Option<(usize, Call, Call)>, AllocError> {
+// A case that doesn't go as it must: which of the troubles it has, its number, and both calls.
+type Wrong = Option<(usize, usize, Call, Call)>;
+
+// The first of a session, with the trouble of this place.
+fn first_wrong_of(alloc: Global, session: Session, place: usize) -> Result<Wrong, AllocError> {
     for number in 0..CASES {
-        let Some(case) = case_of(session, number) else {
+        let Some(case) = Case::of(session, number) else {
             return Ok(None);
         };
         if !is_right(alloc, case)? {
-            return Ok(Some((number, case.first, case.second)));
+            return Ok(Some((place, number, case.first, case.second)));
         }
     }
     Ok(None)
 }
 
-// (a test each, since all together would take most of the time that a test has)
+// The first of sessions for this call.
+fn first_wrong(
+    alloc: Global,
+    call: Call,
+    troubles: &[Trouble],
+    stop: Option<usize>,
+    strays: Strays,
+) -> Result<Wrong, AllocError> {
+    for (place, trouble) in troubles.iter().enumerate() {
+        let session = Session {
+            call,
+            trouble: *trouble,
+            stop,
+            strays,
+        };
+        let wrong = first_wrong_of(alloc, session, place)?;
+        if wrong.is_some() {
+            return Ok(wrong);
+        }
+    }
+    Ok(None)
+}
+
+// Of sessions with which nothing goes wrong.
+fn first_wrong_of_fine(alloc: Global, call: Call) -> Result<Wrong, AllocError> {
+    match first_wrong(alloc, call, FINE, None, Strays::Without)? {
+        None => first_wrong(alloc, call, FINE, None, Strays::With),
+        wrong => Ok(wrong),
+    }
+}
+
+// Of sessions with troubles.
+fn first_wrong_in(alloc: Global, call: Call, troubles: &[Trouble]) -> Result<Wrong, AllocError> {
+    first_wrong(alloc, call, troubles, None, Strays::ByTurns)
+}
+
+// After how many acts of its job a session is stopped, before a call is left: it is queued, or its handle has answered.
+const STOPS: [usize; 2] = [0, 4];
+
+// Of sessions of which a stop is under way.
+fn first_wrong_behind_a_stop(
+    alloc: Global,
+    call: Call,
+    troubles: &[Trouble],
+) -> Result<Wrong, AllocError> {
+    for acts in STOPS {
+        let wrong = first_wrong(alloc, call, troubles, Some(acts), Strays::ByTurns)?;
+        if wrong.is_some() {
+            return Ok(wrong);
+        }
+    }
+    Ok(None)
+}
+
+// (tests of their own, since all together would take most of the time that a test has)
 #[test]
 fn calls_follow_behind_a_reading_session(rt: HostRuntime) -> Result<(), Fail> {
-    assert_eq!(rt; first_wrong(rt.alloc(), Read)?, None);
+    assert_eq!(rt; first_wrong_of_fine(rt.alloc(), Read)?, None);
     Ok(())
 }
 
 #[test]
 fn calls_follow_behind_a_writing_session(rt: HostRuntime) -> Result<(), Fail> {
-    assert_eq!(rt; first_wrong(rt.alloc(), Write)?, None);
+    assert_eq!(rt; first_wrong_of_fine(rt.alloc(), Write)?, None);
     Ok(())
 }
 
 #[test]
 fn calls_follow_behind_a_stream(rt: HostRuntime) -> Result<(), Fail> {
-    assert_eq!(rt; first_wrong(rt.alloc(), Next)?, None);
+    assert_eq!(rt; first_wrong_of_fine(rt.alloc(), Next)?, None);
     Ok(())
 }
 
 #[test]
 fn calls_follow_behind_a_seek(rt: HostRuntime) -> Result<(), Fail> {
-    assert_eq!(rt; first_wrong(rt.alloc(), Seek)?, None);
+    assert_eq!(rt; first_wrong_of_fine(rt.alloc(), Seek)?, None);
     Ok(())
 }
 
 #[test]
 fn calls_follow_behind_an_operation(rt: HostRuntime) -> Result<(), Fail> {
-    assert_eq!(rt; first_wrong(rt.alloc(), Operate)?, None);
+    assert_eq!(rt; first_wrong_of_fine(rt.alloc(), Operate)?, None);
+    Ok(())
+}
+
+#[test]
+fn calls_follow_behind_a_reader_that_fails(rt: HostRuntime) -> Result<(), Fail> {
+    assert_eq!(rt; first_wrong_in(rt.alloc(), Read, FAILS)?, None);
+    Ok(())
+}
+
+#[test]
+fn calls_follow_behind_a_reader_at_its_end(rt: HostRuntime) -> Result<(), Fail> {
+    assert_eq!(rt; first_wrong_in(rt.alloc(), Read, ENDS)?, None);
+    Ok(())
+}
+
+#[test]
+fn calls_follow_behind_a_writer_that_fails(rt: HostRuntime) -> Result<(), Fail> {
+    assert_eq!(rt; first_wrong_in(rt.alloc(), Write, FAILS)?, None);
+    Ok(())
+}
+
+#[test]
+fn calls_follow_behind_a_writer_that_fails_on(rt: HostRuntime) -> Result<(), Fail> {
+    assert_eq!(rt; first_wrong_in(rt.alloc(), Write, FAILS_ON)?, None);
+    Ok(())
+}
+
+#[test]
+fn calls_follow_behind_a_writer_that_takes_none(rt: HostRuntime) -> Result<(), Fail> {
+    assert_eq!(rt; first_wrong_in(rt.alloc(), Write, ENDS)?, None);
+    Ok(())
+}
+
+#[test]
+fn calls_follow_behind_an_iterator_at_its_end(rt: HostRuntime) -> Result<(), Fail> {
+    assert_eq!(rt; first_wrong_in(rt.alloc(), Next, ENDS)?, None);
+    Ok(())
+}
+
+#[test]
+fn calls_follow_behind_a_seek_that_fails(rt: HostRuntime) -> Result<(), Fail> {
+    assert_eq!(rt; first_wrong_in(rt.alloc(), Seek, &[Fails(0)])?, None);
+    Ok(())
+}
+
+#[test]
+fn calls_follow_behind_a_stopped_reader(rt: HostRuntime) -> Result<(), Fail> {
+    let troubles = &[Nothing, Fails(0), Fails(1)];
+    assert_eq!(rt;
+        first_wrong_behind_a_stop(rt.alloc(), Read, troubles)?,
+        None
+    );
+    Ok(())
+}
+
+#[test]
+fn calls_follow_behind_a_stopped_writer(rt: HostRuntime) -> Result<(), Fail> {
+    let troubles = &[Nothing, FailsOn(0), Fails(2)];
+    assert_eq!(rt;
+        first_wrong_behind_a_stop(rt.alloc(), Write, troubles)?,
+        None
+    );
+    Ok(())
+}
+
+#[test]
+fn calls_follow_behind_a_stopped_stream(rt: HostRuntime) -> Result<(), Fail> {
+    assert_eq!(rt;
+        first_wrong_behind_a_stop(rt.alloc(), Next, &[Nothing, Ends(1)])?,
+        None
+    );
+    Ok(())
+}
+
+#[test]
+fn calls_follow_behind_a_stopped_seek_or_operation(rt: HostRuntime) -> Result<(), Fail> {
+    assert_eq!(rt;
+        first_wrong_behind_a_stop(rt.alloc(), Seek, &[Nothing, Fails(0)])?,
+        None
+    );
+    assert_eq!(rt; first_wrong_behind_a_stop(rt.alloc(), Operate, FINE)?, None);
     Ok(())
 }

@@ -1,17 +1,41 @@
-//! Jobs that bear a mark, sweeps, and numbers of jobs that are over.
+//! Jobs that bear a mark, sweeps, also by a wait that timed out, and numbers of jobs that are over.
 use super::bench::play;
 use super::step::Count::{Idle, Queued};
 use super::step::Deed::{Cancel, Mark, Place, Wake};
 use super::step::Ending::{Done, Dropped, Waiting};
 use super::step::Shown::{
-    Accepted, Are, Drops, Free, InFirstPlace, Lent, NoAnswer, Rang, Runs, Stays, Swept, Woke,
+    Accepted, Are, Arrived, Drops, Free, InFirstPlace, Lent, NoAnswer, Rang, Runs, Stays, Stops,
+    Swept, Woke,
 };
-use super::step::Step::{Add, Ask, Job, Ring, Sweep, Worker};
-use super::step::Until::TimedOut;
+use super::step::Step::{Add, Arrive, Ask, Job, Ring, SetLimit, Sweep, Worker};
+use super::step::Until::{Notified, TimedOut};
 use super::step::Work::{End, Take, Wait};
-use super::step::{LIMIT_1, READY, Row, Work};
-use blocking_core::pool::BellKind::{One, Silent};
+use super::step::{LIMIT_1, LIMIT_4, Line, READY, Row, Work};
+use blocking_core::pool::BellKind::{All, One, Silent};
 use blocking_core::pool::Woke::{Entered, Nothing};
+
+// How a row begins of which three workers are idle, and three jobs are parked that bear a mark.
+const MARKED: [Line; 19] = [
+    (Add(1), Accepted(1)),
+    (Arrive, Arrived(1)),
+    (Worker(1, Take), Runs(1)),
+    (Add(2), Accepted(2)),
+    (Arrive, Arrived(2)),
+    (Worker(2, Take), Runs(2)),
+    (Add(3), Accepted(3)),
+    (Arrive, Arrived(3)),
+    (Worker(3, Take), Runs(3)),
+    (Worker(1, End(Waiting)), Free),
+    (Worker(2, End(Waiting)), Free),
+    (Worker(3, End(Waiting)), Free),
+    (Job(3, Mark), Lent(true)),
+    (Job(1, Mark), Lent(true)),
+    (Job(2, Mark), Lent(true)),
+    (Ring, Rang(All)),
+    (Ask(Queued), Are(0)),
+    (Ask(Idle), Are(3)),
+    (Ring, Rang(Silent)),
+];
 
 const ROWS: &[Row] = &[
     Row {
@@ -117,6 +141,57 @@ const ROWS: &[Row] = &[
             (Worker(1, Take), Drops(1)),
         ],
         starts: &[1],
+    },
+    // The worker drops one after another, beside the one that was notified, until a third one's own wait times out.
+    Row {
+        name: "a wait that timed out puts three marked jobs back, and rings one",
+        pool: LIMIT_4,
+        begin: &MARKED,
+        steps: &[
+            (Worker(2, Wait(TimedOut)), Stays),
+            (Ask(Queued), Are(3)),
+            (Ring, Rang(One)),
+            (Worker(2, Take), Drops(1)),
+            (Ring, Rang(Silent)),
+            (Worker(1, Wait(Notified)), Stays),
+            (Worker(1, Take), Drops(2)),
+            (Worker(2, End(Dropped)), Free),
+            (Worker(2, Take), Drops(3)),
+            (Ring, Rang(Silent)),
+            (Worker(3, Wait(TimedOut)), Stops),
+        ],
+        starts: &[1, 2, 3],
+    },
+    Row {
+        name: "a sweep puts three marked jobs back, and rings one",
+        pool: LIMIT_4,
+        begin: &MARKED,
+        steps: &[
+            (Sweep, Swept(3)),
+            (Ring, Rang(One)),
+            (Worker(3, Take), Drops(1)),
+            (Worker(3, End(Dropped)), Free),
+            (Worker(3, Take), Drops(2)),
+            (Worker(3, End(Dropped)), Free),
+            (Worker(3, Take), Drops(3)),
+            (Ring, Rang(Silent)),
+        ],
+        starts: &[1, 2, 3],
+    },
+    Row {
+        name: "a wait over a lowered limit puts three marked jobs back, stops, and rings one",
+        pool: LIMIT_4,
+        begin: &MARKED,
+        steps: &[
+            (SetLimit(2), NoAnswer),
+            (Ring, Rang(All)),
+            (Worker(1, Wait(TimedOut)), Stops),
+            (Ask(Queued), Are(3)),
+            (Ring, Rang(One)),
+            (Worker(2, Wait(Notified)), Stays),
+            (Worker(2, Take), Drops(1)),
+        ],
+        starts: &[1, 2, 3],
     },
     Row {
         name: "a place is used again",
