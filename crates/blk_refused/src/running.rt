@@ -18,6 +18,8 @@ const WRITES: u64 = 200;
 pub(crate) enum End {
     /// By itself, and by the calls that it is for.
     Own,
+    /// So too, and its pool is swept before each call, and before an operation is awaited.
+    Swept,
     /// It is stopped for the handle.
     Stopped,
     /// Its owner is dropped.
@@ -28,10 +30,15 @@ impl End {
     pub(crate) fn by_name(name: &str) -> Option<End> {
         match name {
             "ends" => Some(End::Own),
+            "sweeps" => Some(End::Swept),
             "stops" => Some(End::Stopped),
             "drops" => Some(End::Dropped),
             _ => None,
         }
+    }
+
+    fn is_swept(self) -> bool {
+        matches!(self, End::Swept)
     }
 }
 
@@ -43,8 +50,8 @@ pub(crate) fn runs<J: Carrier<H>, H: Host + Print>(
 ) -> io::Result<Option<&'static str>> {
     let rt = executor.runtime();
     let mut scene = Scene::new(rt, executor, NARROW)?;
-    if let (Kind::Operate, End::Own) = (kind, end) {
-        return operates(rt, &mut scene);
+    if let (Kind::Operate, End::Own | End::Swept) = (kind, end) {
+        return operates(rt, &mut scene, end);
     }
     if !scene.begin(kind)? {
         return Ok(Some("the session didn't begin"));
@@ -52,7 +59,7 @@ pub(crate) fn runs<J: Carrier<H>, H: Host + Print>(
     mark(&rt, REFUSED)?;
     scene.open();
     let wrong = match end {
-        End::Own => goes_on(&mut scene, kind)?,
+        End::Own | End::Swept => goes_on(&mut scene, kind, end)?,
         End::Stopped => match scene.take_back()? {
             Some(_) => None,
             None => Some("the handle doesn't come back"),
@@ -74,8 +81,9 @@ pub(crate) fn runs<J: Carrier<H>, H: Host + Print>(
 fn operates<J: Carrier<H>, H: Host + Print>(
     rt: H,
     scene: &mut Scene<J, H>,
+    end: End,
 ) -> io::Result<Option<&'static str>> {
-    let came = scene.operate()?;
+    let came = scene.operate(end.is_swept())?;
     let handle = scene.take_back()?;
     let rests = scene.rests();
     mark(&rt, GRANTED)?;
@@ -85,23 +93,36 @@ fn operates<J: Carrier<H>, H: Host + Print>(
     })
 }
 
+// Makes a call, behind a sweep where that is wanted: it finds no job, since the session has its owner.
+fn calls<J: Carrier<H>, H: Host>(
+    scene: &mut Scene<J, H>,
+    kind: Kind,
+    end: End,
+) -> io::Result<Came> {
+    if end.is_swept() && scene.sweep() > 0 {
+        return Ok(Came::Wrong);
+    }
+    scene.call(kind)
+}
+
 // Makes the calls that are left of a session. What of them is wrong, if anything is.
 fn goes_on<J: Carrier<H>, H: Host>(
     scene: &mut Scene<J, H>,
     kind: Kind,
+    end: End,
 ) -> io::Result<Option<&'static str>> {
     // (the first byte and the first item came when the session began, and a seek is polled on)
     let mut place = match kind {
         Kind::Seek => 0,
         _ => 1,
     };
-    let calls = match kind {
+    let count = match kind {
         Kind::Write => WRITES,
         Kind::Seek => 1,
         _ => BYTES,
     };
-    for _ in 0..calls {
-        match scene.call(kind)? {
+    for _ in 0..count {
+        match calls(scene, kind, end)? {
             Came::Got(got) if got == kind.got_at(place) => place = place.saturating_add(1),
             Came::End => break,
             Came::Refused(_) => return Ok(Some("a running session is refused")),

@@ -202,8 +202,8 @@ impl<J: Carrier<H>, H: Host> Scene<J, H> {
         }
     }
 
-    /// Has an operation begun, and refuses all before it is awaited.
-    pub(crate) fn operate(&mut self) -> io::Result<Came>
+    /// Has an operation begun, and refuses all before it is awaited. The pool may be swept then, which finds no job.
+    pub(crate) fn operate(&mut self, is_swept: bool) -> io::Result<Came>
     where
         H: Print,
     {
@@ -219,8 +219,9 @@ impl<J: Carrier<H>, H: Host> Scene<J, H> {
             .mock
             .enter(|cx| !jump.is_taken() && jump.poll(cx).is_pending());
         mark(&self.rt, REFUSED)?;
+        let finds = is_swept && self.executor.sweep() > 0;
         self.gate.open();
-        if !waits || jump.is_taken() {
+        if !waits || finds || jump.is_taken() {
             return Ok(Came::Wrong);
         }
         Ok(match block_on_queue(&self.rt, &self.queue, jump)? {
@@ -280,6 +281,11 @@ impl<J: Carrier<H>, H: Host> Scene<J, H> {
             return Ok(None);
         }
         Ok(Some(block_on_queue(&self.rt, &self.queue, owner.into_inner())?))
+    }
+
+    /// Sweeps the pool, and answers how many jobs went back.
+    pub(crate) fn sweep(&self) -> usize {
+        self.executor.sweep()
     }
 
     /// Drops the owner.
