@@ -29,3 +29,8 @@ module _ {W : Type 0} (writes : W → List ℕ → W → Type 0) (is_flushed : W
   WrittenBy old (OfFlush (Ready (Ok done))) new = writes old [] new × is_flushed new
   WrittenBy old (OfFlush (Ready (Err fault))) new = writes old [] new × IsOwn (fails new) fault
   WrittenBy old (OfFlush Pending) new = writes old [] new
+
+module _ {W : Type 0} (writes : W → List ℕ → W → Type 0) (is_flushed : W → Type 0) (is_shut_down : W → Type 0) where
+  -- it was flushed, and then shut down, with nothing written between
+  abbrev pub ClosedBy : W → Type 0
+  ClosedBy new = (last : W) × is_flushed last × writes last [] new × is_shut_down new

@@ -62,8 +62,7 @@ module _ {A : Type 0} (writes : A → WriterPoll → A → Type 0) where
     λ is_open. cc,
   )
   takes_in_order false old xs false mid ys is new first rest =
-      let Q : A → Type 0 = λ m. Passes writes m rest.1.0 rest.0 in
-      (
+      let Q : A → Type 0 = λ m. Passes writes m rest.1.0 rest.0 in (
         rest.0,
         (
           first.1.0 ++ rest.1.0,

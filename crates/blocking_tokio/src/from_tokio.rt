@@ -61,7 +61,10 @@ impl<R: tokio::io::AsyncRead> AsyncRead for FromTokio<R> {
 }
 
 impl<W: tokio::io::AsyncWrite> AsyncWrite for FromTokio<W> {
-    ghost use Rattle.blocking_tokio.specs.FromKit.{WrittenBy};
+    ghost use Rattle.std.specs.Prelude.{IfOk};
+    ghost use Rattle.futures.specs.Poll.{IfReady, OnPending};
+    ghost use Rattle.futures.specs.Task.{IsArmed, Keeps};
+    ghost use Rattle.blocking_tokio.specs.FromKit.{ClosedBy, WrittenBy};
 
     ghost closed = { λ writer. writer.is_closed ≡ true };
 
@@ -75,7 +78,12 @@ impl<W: tokio::io::AsyncWrite> AsyncWrite for FromTokio<W> {
         as_fault(self.inner.poll_flush(cx))
     }
 
-    fn poll_close(&mut self, cx: &mut Context<'_>) -> Poll<Result<(), IoFault>> {
+    fn poll_close(&mut self, cx: &mut Context<'_>) -> Poll<Result<(), IoFault>>
+        ensures closed { IfReady result (λ r. IfOk r (λ _. self.new.is_closed ≡ true)) }
+        ensures by { self.old.is_closed ≡ false → IfReady result (λ r. IfOk r (λ _. ClosedBy W.writes W.is_flushed W.is_shut_down self.new.inner)) }
+        ensures armed { OnPending result (IsArmed cx.new) }
+        ensures kept { Keeps cx.old cx.new }
+    {
         if self.is_closed {
             return Poll::Ready(Ok(()));
         }
