@@ -1,0 +1,4 @@
+pub mod Errors
+pub mod FromKit
+pub mod Reading
+pub mod Writing

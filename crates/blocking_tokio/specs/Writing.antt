@@ -1,0 +1,73 @@
+-- What the kit's traits ask of a writer, said by the polls of one of ours, with the proofs of their laws.
+use Rattle.std.proofs.Common.{◌≡◌, ◌⊎◌, ◌∙◌, ap, sym, subst, refl, rules, ℕ, Bool, true, false, List, [], ◌∷◌, ◌++◌, Ok, Err, append-nil}
+use Rattle.std.proofs.lemmas.Grind.{common_steps}
+use Rattle.std.specs.declared.io.Error.{Error}
+use Rattle.futures.specs.declared.task.Poll.TheVariants.{Ready}
+use Rattle.blocking_core.specs.Faults.{IsToldAs}
+use Rattle.blocking_core.specs.declared.io.Fault.{Fault}
+use Rattle.blocking_io.specs.Copies.{Passes, all_written, bytes_of}
+use Rattle.blocking_io.specs.Polled.{WriterPoll, OfFlush, OfWrite}
+
+passes_join : {S P : Type 0} (polls : S → P → S → Type 0) (old mid new : S) (xs ys : List P) → Passes polls old xs mid → Passes polls mid ys new
+    → Passes polls old (xs ++ ys) new
+passes_join {S = S} polls old mid new [] ys first rest = let Q : S → Type 0 = λ m. Passes polls m ys new in subst Q first rest
+passes_join polls old mid new (x ∷ xs) ys first rest = (first.0, first.1, passes_join polls first.0 mid new xs ys first.2 rest)
+
+assoc : (xs ys zs : List ℕ) → (xs ++ ys) ++ zs ≡ xs ++ (ys ++ zs)
+assoc xs ys zs = search (rules, common_steps)
+
+written_on : (xs ys : List WriterPoll) → all_written (xs ++ ys) ≡ all_written xs ++ all_written ys
+written_on [] ys = refl
+written_on (OfWrite x ∷ xs) ys = ap (λ l. bytes_of x ++ l) (written_on xs ys) ∙ sym (assoc (bytes_of x) (all_written xs) (all_written ys))
+written_on (OfFlush x ∷ xs) ys = written_on xs ys
+
+module _ {A : Type 0} (writes : A → WriterPoll → A → Type 0) where
+  -- polls of writes and flushes led from the one state to the other, and these are all bytes that they took, in order
+  abbrev pub Took : A → List ℕ → A → Type 0
+  Took old bytes new = (polls : List WriterPoll) × Passes writes old polls new × (all_written polls ≡ bytes)
+
+  -- The same of a writer that may be shut down on the way: what was shut stays so and takes nothing more.
+  abbrev pub Takes : Bool → A → List ℕ → Bool → A → Type 0
+  Takes true old bytes is_shut new = (bytes ≡ []) × (is_shut ≡ true)
+  Takes false old bytes is_shut new = (last : A) × Took old bytes last × (is_shut ≡ false → new ≡ last)
+
+  -- a flush that was done led to this state
+  abbrev pub WasFlushed : A → Type 0
+  WasFlushed new = (old : A) × writes old (OfFlush (Ready (Ok tt))) new
+
+  -- a write that took nothing led to this state
+  abbrev pub TookNone : A → Type 0
+  TookNone new = (old : A) × writes old (OfWrite (Ready (Ok []))) new
+
+  -- a write or a flush led to this state by a fault that is told as this error of the system
+  abbrev pub WriteFails : A → Error → Type 0
+  WriteFails new error =
+      (old : A) × (fault : Fault Error) × (writes old (OfWrite (Ready (Err fault))) new ⊎ writes old (OfFlush (Ready (Err fault))) new)
+      × IsToldAs fault error
+
+  pub takes_nothing : (is_shut : Bool) (writer : A) → Takes is_shut writer [] is_shut writer
+  takes_nothing true writer = (refl, refl)
+  takes_nothing false writer = (writer, ([], refl, refl), λ _. refl)
+
+  both_nothing : (xs ys : List ℕ) → xs ≡ [] → ys ≡ [] → xs ++ ys ≡ []
+  both_nothing xs ys none nor = ap (λ l. l ++ ys) none ∙ nor
+
+  pub takes_in_order : (was : Bool) (old : A) (xs : List ℕ) (between : Bool) (mid : A) (ys : List ℕ) (is : Bool) (new : A)
+      → Takes was old xs between mid → Takes between mid ys is new → Takes was old (xs ++ ys) is new
+  takes_in_order true old xs true mid ys is new first rest = (both_nothing xs ys first.0 rest.0, rest.1)
+  takes_in_order true old xs false mid ys is new first rest = cc
+  takes_in_order false old xs true mid ys is new first rest = (
+    first.0,
+    (first.1.0, first.1.1, first.1.2 ∙ (sym (append-nil xs) ∙ ap (λ l. xs ++ l) (sym rest.0))),
+    λ is_open. cc,
+  )
+  takes_in_order false old xs false mid ys is new first rest =
+      let Q : A → Type 0 = λ m. Passes writes m rest.1.0 rest.0 in (
+        rest.0,
+        (
+          first.1.0 ++ rest.1.0,
+          passes_join writes old first.0 rest.0 first.1.0 rest.1.0 first.1.1 (subst Q (first.2 refl) rest.1.1),
+          written_on first.1.0 rest.1.0 ∙ (ap (λ l. l ++ all_written rest.1.0) first.1.2 ∙ ap (λ l. xs ++ l) rest.1.2),
+        ),
+        rest.2,
+      )
