@@ -1,30 +1,16 @@
 //! A folder whose entries come as a stream. A worker looks ahead, and this thread waits for nothing but the next entry.
 use crate::host::Host;
 use anyhow::Result;
-use blocking::{Executor, ItemJob, Unblock};
-use blocking_core::pool::Refusal;
+use blocking::{Executor, ItemJob};
+use blocking_anytime::Open;
+use futures::StreamExt;
 use futures::executor::block_on;
-use futures::{Stream, StreamExt};
 use std::{env, fs, io};
 
 // How many entries the worker looks ahead at most.
 const AHEAD: usize = 4;
 
 type Listers<T, I, H> = Executor<ItemJob<T, io::Result<I>, H>, H>;
-
-// Whether one more entry comes. Where it is an error, or no session could begin, that is told.
-fn next_came<S: Stream<Item = Result<io::Result<I>, Refusal>>, I: Drop, H: Host>(
-    rt: H,
-    entries: &mut S,
-) -> Result<bool>
-    requires { S.can_poll entries.old }
-{
-    let Some(entry) = block_on(&rt, entries.next())? else {
-        return Ok(false);
-    };
-    entry??;
-    Ok(true)
-}
 
 // How many entries come of an iterator, or the first error.
 fn count<T, I, H>(rt: H, entries: T) -> Result<usize>
@@ -35,12 +21,13 @@ where
     requires { (at : T) → T.can_next at }
 {
     let executor: Listers<T, I, H> = Executor::new(rt, Some("1"))?;
-    let mut entries = Unblock::with_capacity(AHEAD, executor, entries);
+    let mut entries = Open::with_capacity(AHEAD, executor, entries);
     let mut count = 0usize;
     for _ in rt.forever() {
-        if entries.is_closed() || !next_came(rt, &mut entries)? {
+        let Some(entry) = block_on(&rt, entries.next())? else {
             break;
-        }
+        };
+        entry??;
         count = count.saturating_add(1);
     }
     Ok(count)

@@ -1,7 +1,8 @@
 //! A file that is read line by line. A worker reads ahead, and this thread waits for nothing but what comes next.
 use crate::host::Host;
 use anyhow::Result;
-use blocking::{AsyncRead, AsyncReadExt, Executor, ReadJob, Reader, Unblock};
+use blocking::{AsyncReadExt, Executor, ReadJob};
+use blocking_anytime::{Open, OpenReader};
 use futures::executor::block_on;
 use std::env::Env;
 use std::fs::{File, Files};
@@ -46,16 +47,6 @@ impl Line {
     }
 }
 
-// Takes the next piece of what is read, and gives how many bytes that were.
-fn take_piece<A: AsyncRead, H: Host>(rt: H, reader: &mut A, line: &mut Line) -> Result<usize>
-    requires { A.closed reader.old → ⊥ }
-{
-    let mut piece = [0u8; PIECE];
-    let count = block_on(&rt, reader.read(&mut piece))??;
-    line.take(&rt, &piece[..count])?;
-    Ok(count)
-}
-
 // Prints each line that is read as soon as it has come.
 fn show_lines<T: Read + Drop + Send + 'static, H: Host>(rt: H, reader: T) -> Result<()> {
     let mut line = Line {
@@ -63,11 +54,14 @@ fn show_lines<T: Read + Drop + Send + 'static, H: Host>(rt: H, reader: T) -> Res
         bytes: Vec::new(rt.alloc()),
     };
     let executor: Readers<T, H> = Executor::new(rt, Some("1"))?;
-    let mut reader: Reader<T, H> = Unblock::with_capacity(AHEAD, executor, reader);
+    let mut reader: OpenReader<T, H> = Open::with_capacity(AHEAD, executor, reader);
+    let mut piece = [0u8; PIECE];
     for _ in rt.forever() {
-        if reader.is_closed() || take_piece(rt, &mut reader, &mut line)? == 0 {
+        let count = block_on(&rt, reader.read(&mut piece))??;
+        if count == 0 {
             break;
         }
+        line.take(&rt, &piece[..count])?;
     }
     line.end(&rt)
 }

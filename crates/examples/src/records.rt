@@ -1,9 +1,8 @@
 //! A file of records of one length: each is sought and read, while this thread waits for no disk.
 use crate::host::Host;
 use anyhow::Result;
-use blocking::{
-    AsyncRead, AsyncReadExt, AsyncSeek, AsyncSeekExt, Executor, Jobs, Reader, Unblock, Unused,
-};
+use blocking::{AsyncReadExt, AsyncSeekExt, Executor, Jobs, Unused};
+use blocking_anytime::{Open, OpenReader};
 use futures::executor::block_on;
 use std::env::Env;
 use std::fs::{File, Files};
@@ -18,19 +17,14 @@ const LENGTH: usize = 5;
 // The executor's jobs: those that read from a handle, and those that move it.
 type Access<T, H> = Jobs<H, Unused, T, Unused, Unused, T>;
 
-// Moves a handle to the record with this number, counted from 0.
-fn seek_record<A: AsyncSeek, H: Host>(rt: H, file: &mut A, number: u64) -> Result<()>
-    requires { A.closed file.old → ⊥ }
-{
+// Prints the record with this number, counted from 0.
+fn show_record<T: Read + Seek + Drop, H: Host>(
+    rt: H,
+    file: &mut OpenReader<T, H, Access<T, H>>,
+    number: u64,
+) -> Result<()> {
     let place = number.saturating_mul(LENGTH as u64);
     block_on(&rt, file.seek(SeekFrom::Start(place)))??;
-    Ok(())
-}
-
-// Reads the next record, and prints it.
-fn show_next<A: AsyncRead, H: Host>(rt: H, file: &mut A, number: u64) -> Result<()>
-    requires { A.closed file.old → ⊥ }
-{
     let mut record = [0u8; LENGTH];
     block_on(&rt, file.read_exact(&mut record))??;
     let text = String::from_utf8_lossy(rt.alloc(), &record)?;
@@ -38,25 +32,10 @@ fn show_next<A: AsyncRead, H: Host>(rt: H, file: &mut A, number: u64) -> Result<
     Ok(())
 }
 
-// Prints the record with this number, counted from 0. A handle that is closed has none.
-fn show_record<T: Read + Seek + Drop, H: Host>(
-    rt: H,
-    file: &mut Reader<T, H, Access<T, H>>,
-    number: u64,
-) -> Result<()> {
-    if !file.is_closed() {
-        seek_record(rt, file, number)?;
-    }
-    if file.is_closed() {
-        return Ok(());
-    }
-    show_next(rt, file, number)
-}
-
 // Prints two of the records, the last one first.
 fn show_two<T: Read + Seek + Drop + Send + 'static, H: Host>(rt: H, file: T) -> Result<()> {
     let executor: Executor<Access<T, H>, H> = Executor::new(rt, Some("1"))?;
-    let mut file = Unblock::new(executor, file);
+    let mut file = Open::new(executor, file);
     show_record(rt, &mut file, 2)?;
     show_record(rt, &mut file, 1)
 }

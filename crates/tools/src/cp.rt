@@ -1,11 +1,7 @@
 //! A copy that shows how far it is. Who copies polls, and two jobs of one pool read and write.
-ghost use Rattle.std.specs.Prelude.{◌≡◌};
-
-use anyhow::{Result, ensure};
-use blocking::{
-    AsyncRead, AsyncWrite, CallOn, Copier, CopyFault, Executor, Host, Jobs, Reader, Unblock,
-    Unused, Writer,
-};
+use anyhow::Result;
+use blocking::{AsyncRead, AsyncWrite, CallOn, Copier, CopyFault, Executor, Host, Jobs, Unused};
+use blocking_anytime::{Open, OpenReader, OpenWriter};
 use futures::Future;
 use futures::executor::block_on;
 use futures::task::{Context, Poll};
@@ -63,18 +59,17 @@ impl<A: AsyncRead + Drop, B: AsyncWrite + Drop, P: Eprint + Drop> Future for Sho
 /// Copies the one file to the other, and tells how many bytes that were.
 pub(crate) fn copy<H: Host + Eprint>(rt: H, from: File, to: File, is_synced: bool) -> Result<u64> {
     let executor: Executor<Work<H>, H> = Executor::new(rt, Some("2"))?;
-    let reader: Reader<File, H, Work<H>> = Unblock::new(executor.try_clone()?, from);
-    let writer: Writer<File, H, Work<H>> = Unblock::new(executor, to);
+    let reader: OpenReader<File, H, Work<H>> = Open::new(executor.try_clone()?, from);
+    let writer: OpenWriter<File, H, Work<H>> = Open::new(executor, to);
     let mut copy = ShownCopy {
         copier: Copier::new(rt.alloc(), reader, writer, PIECE)?,
         rt,
         shown: 0,
     };
     let copied = block_on(&rt, &mut copy)??;
-    let (_, mut writer) = copy.copier.into_parts();
+    let (_, writer) = copy.copier.into_parts();
     if is_synced {
-        ensure!(!writer.is_closed(), "the copy is closed");
-        block_on(&rt, writer.with_mut(SyncAll))???;
+        block_on(&rt, writer.into_owner().with_mut(SyncAll))???;
     }
     Ok(copied)
 }

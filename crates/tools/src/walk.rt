@@ -1,7 +1,10 @@
 //! How many bytes a tree has. Its directories are read on a pool, several at the same time.
-use anyhow::{Context, Result, ensure};
-use blocking::{Call, CallJob, Executor, Host, Task, unblock};
+use anyhow::{Context, Result};
+use blocking::{Call, CallJob, Executor, Host, unblock};
+use blocking_anytime::FusedTask;
+use futures::TryStreamExt;
 use futures::executor::block_on;
+use futures::stream::FuturesUnordered;
 use std::path::PathBuf;
 use std::{fs, io};
 
@@ -9,11 +12,7 @@ use std::{fs, io};
 const READERS: &str = "16";
 
 // The bytes of what is in a directory, and the directories in it.
-#[derive(Drop)]
-struct Listed {
-    bytes: u64,
-    inside: Vec<PathBuf>,
-}
+type Listed = (u64, Vec<PathBuf>);
 
 // Reads a directory. (it holds the system's handles: what a thread is handed may rest on no bound of a type)
 #[derive(Drop)]
@@ -38,7 +37,7 @@ impl Call for List {
                 inside.push(entry.path().to_path_buf(alloc)?)?;
             }
         }
-        Ok(Listed { bytes, inside })
+        Ok((bytes, inside))
     }
 }
 
@@ -48,20 +47,18 @@ type Walkers<H> = Executor<CallJob<List, H>, H>;
 fn bytes_of<H: Host>(rt: H, files: HostRuntime, executor: &Walkers<H>, root: &str) -> Result<u64> {
     let meta = fs::symlink_metadata(&files, root)?;
     let mut bytes = meta.len();
-    let mut tasks: Vec<Task<List, H>> = Vec::new(rt.alloc());
+    let mut lists = FuturesUnordered::new(rt.alloc())?;
     if meta.is_dir() {
         let path = PathBuf::from_str(rt.alloc(), root)?;
-        tasks.push(unblock(executor, List { files, path })?)?;
+        lists.push(FusedTask::new(unblock(executor, List { files, path })?))?;
     }
     for _ in rt.forever() {
-        let Some(task) = tasks.pop() else {
+        let Some((more, inside)) = block_on(&rt, lists.try_next())?? else {
             break;
         };
-        ensure!(!task.is_taken(), "a task has given its value");
-        let listed = block_on(&rt, task)??;
-        bytes = bytes.saturating_add(listed.bytes);
-        for path in listed.inside {
-            tasks.push(unblock(executor, List { files, path })?)?;
+        bytes = bytes.saturating_add(more);
+        for path in inside {
+            lists.push(FusedTask::new(unblock(executor, List { files, path })?))?;
         }
     }
     Ok(bytes)
