@@ -3,11 +3,19 @@
 #![tactic(auto)]
 
 #[cfg(test)]
+mod copier;
+#[cfg(test)]
 mod handle;
 #[cfg(test)]
 mod in_a_row;
 #[cfg(test)]
+mod log;
+#[cfg(test)]
+mod mixed;
+#[cfg(test)]
 mod owners;
+#[cfg(test)]
+mod programs;
 #[cfg(test)]
 mod tasks;
 #[cfg(test)]

@@ -1,0 +1,24 @@
+//! A log of several producers, each on a thread of its own. A line whose producer goes on is in the file.
+use blocking::{AsyncWriteExt, Executor, Host, WriteJob};
+use blocking_anytime::{Open, OpenWriter};
+use futures::executor::block_on;
+use std::fs::File;
+use std::io;
+use std::sync::Mutex;
+
+/// A log that its producers share.
+pub(crate) type Log<H> = Mutex<OpenWriter<File, H>>;
+
+/// The log in a file.
+pub(crate) fn log_to<H: Host>(rt: H, file: File) -> io::Result<Log<H>> {
+    let executor: Executor<WriteJob<File, H>, H> = Executor::new(rt, Some("1"))?;
+    Ok(Mutex::new(Open::new(executor, file)))
+}
+
+/// Logs a line, which is in the file then.
+pub(crate) fn log_line<H: Host>(rt: H, log: &Log<H>, line: &str) -> io::Result<()> {
+    let mut log = log.lock(&rt);
+    block_on(&rt, log.write_all(line.as_bytes()))??;
+    block_on(&rt, log.flush())??;
+    Ok(())
+}
