@@ -2,6 +2,7 @@
 use crate::files::{Lent, Place, System};
 use blocking::{AsyncReadExt, AsyncWriteExt, Copier, Host, Unblock};
 use blocking_tokio::FromTokio;
+use bytes::BytesMut;
 use futures::TryFutureExt;
 use futures::executor::block_on;
 use futures::future::join;
@@ -27,7 +28,7 @@ fn ends_by_a_close<H: Host>(rt: &H) -> io::Result<bool> {
     let mut writer = FromTokio::new(near);
     block_on(rt, writer.write_all(b"abc"))??;
     block_on(rt, writer.close())??;
-    let (_, read) = block_on(rt, read_to_end(far, Vec::new(rt.alloc())))??;
+    let (_, read) = block_on(rt, read_to_end(far, BytesMut::new(rt.alloc())))??;
     Ok(writer.is_closed() && read.as_slice() == b"abc".as_slice())
 }
 
