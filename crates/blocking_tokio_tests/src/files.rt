@@ -1,4 +1,4 @@
-//! Files of the tests, each with a name of its own, and a pool to lend them to.
+//! Files of the tests, each with a name of its own, and pools to lend them to.
 use blocking::{Executor, FileJobs, Host, Unblock};
 use std::env::Env;
 use std::fs::{File, Files};
@@ -13,11 +13,10 @@ impl<H: Host + Files<File = File> + Env> System for H {}
 /// A file that is lent.
 pub(crate) type Lent<H> = Unblock<File, (), FileJobs<H>, H>;
 
-/// A folder for files, and a pool of two workers.
+/// A folder for files.
 #[derive(Drop)]
 pub(crate) struct Place<H: Host> {
     rt: H,
-    executor: Executor<FileJobs<H>, H>,
     folder: &'static str,
 }
 
@@ -26,11 +25,7 @@ impl<H: System> Place<H> {
         let mut path = env::temp_dir(&rt)?;
         path.push(folder)?;
         fs::create_dir_all(&rt, &path)?;
-        Ok(Place {
-            rt,
-            executor: Executor::new(rt, Some("2"))?,
-            folder,
-        })
+        Ok(Place { rt, folder })
     }
 
     fn path(&self, name: &str) -> io::Result<PathBuf> {
@@ -40,9 +35,9 @@ impl<H: System> Place<H> {
         Ok(path)
     }
 
-    /// The pool.
+    /// A pool of two workers.
     pub(crate) fn executor(&self) -> io::Result<Executor<FileJobs<H>, H>> {
-        Ok(self.executor.try_clone()?)
+        Ok(Executor::new(self.rt, Some("2"))?)
     }
 
     /// A new file.
