@@ -19,9 +19,9 @@ GROUPS = {
         "job types": "Jobs FileJobs CallFileJobs CopyJobs Unused Carries ReadJob WriteJob ItemJob SeekJob OpJob",
         "pipes": "link link_over link_in link_in_over link_drain link_items unlink_in unlink_drain PieceMemory PlaceRule AnyPlace"
         " SendEnd RecvEnd DrainEnd FillEnd PeekEnd ItemSendEnd ItemSending WhyUnsent JobSeated SeenShut ItemRecvEnd Closed ToldEnd SeenEnd OwnerWaker"
-        " Store CopyStore RingStore RingMemory FlatStore FlatMemory LendingStore LendingMemory",
+        " Store CopyStore RingStore RingMemory FlatStore FlatMemory LendingStore LendingMemory pipe::*",
         "pools": "Executor set_max_blocking_threads max_threads DEFAULT_MAX_THREADS MIN_MAX_THREADS MAX_MAX_THREADS MAX_THREADS_ENV"
-        " Counts Runtime Host ThreadStarter Held Ended Job JobNo JobStep WakeNote Starter StartRefused",
+        " Counts Runtime Host ThreadStarter Held Ended Job JobNo JobStep WakeNote Starter StartRefused pool::*",
     },
     "blocking_core": {
         "calls": "task::Call task::CallOn task::Slot task::Slotted task::Looked task::Polled task::Put task::*",

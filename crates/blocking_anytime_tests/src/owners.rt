@@ -1,6 +1,6 @@
 //! From an owner to one that is open, and back; and the handle in its place.
 use crate::handle::Sheet;
-use blocking::{AsyncWriteExt, Executor, Host, Unblock, WriteJob, Writer};
+use blocking::{AsyncWriteExt, Executor, Host, Job, Runtime, Unblock, WriteJob, Writer};
 use blocking_anytime::{Open, OpenWriter};
 use futures::Future;
 use futures::executor::block_on;
@@ -34,13 +34,13 @@ fn an_owner_that_is_closed_comes_back(rt: HostRuntime) -> Result<(), Fail> {
     Ok(())
 }
 
-// Waits for the handle, and tells how often it was flushed.
+// Waits for the handle, and tells how often it was flushed. (over any job type: else the struct would have to say that this one is a job)
 #[derive(Drop)]
-struct Look<H: Host> {
-    open: OpenWriter<Sheet, H>,
+struct Look<J: Job, H: Runtime> {
+    open: Open<Sheet, (), J, H>,
 }
 
-impl<H: Host> Future for Look<H> {
+impl<J: Job, H: Runtime> Future for Look<J, H> {
     type Output = u32;
 
     fn poll(&mut self, cx: &mut Context<'_>) -> Poll<u32> {

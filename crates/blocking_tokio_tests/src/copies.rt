@@ -2,8 +2,8 @@
 ghost use Rattle.std.specs.Prelude.{IfOk};
 ghost use Rattle.blocking_tokio_tests.specs.Copied.{IsCopied};
 
-use crate::files::{Place, System};
-use blocking::{AsyncRead, AsyncWrite, Host};
+use crate::files::{Lent, Place, System};
+use blocking::{AsyncRead, AsyncWrite, Host, Unblock};
 use blocking_tokio::{CompatReader, CompatWriter};
 use futures::executor::block_on;
 use std::io;
@@ -39,8 +39,9 @@ fn numbered<H: Host>(rt: &H, count: usize) -> io::Result<Vec<u8>> {
 fn copies<H: System>(rt: H, count: usize) -> io::Result<bool> {
     let place = Place::new(rt, "blocking_tokio_copies")?;
     let bytes = numbered(&rt, count)?;
-    let from = place.open("from", &bytes)?;
-    let told = copied(&rt, from, place.create("to")?)?;
+    let from: Lent<H> = Unblock::new(place.executor()?, place.open("from", &bytes)?);
+    let to: Lent<H> = Unblock::new(place.executor()?, place.create("to")?);
+    let told = copied(&rt, from, to)?;
     Ok(told == count as u64 && place.bytes("to")? == bytes)
 }
 

@@ -1,5 +1,5 @@
-//! Files of the tests, each with a name of its own, and the pool to which they are lent.
-use blocking::{Executor, FileJobs, Host, Reader, Unblock, Writer};
+//! Files of the tests, each with a name of its own, and pools to lend them to.
+use blocking::{Executor, FileJobs, Host, Unblock};
 use std::env::Env;
 use std::fs::{File, Files};
 use std::path::PathBuf;
@@ -10,15 +10,13 @@ pub(crate) trait System: Host + Files<File = File> + Env {}
 
 impl<H: Host + Files<File = File> + Env> System for H {}
 
-pub(crate) type Read<H> = Reader<File, H, FileJobs<H>>;
+/// A file that is lent.
+pub(crate) type Lent<H> = Unblock<File, (), FileJobs<H>, H>;
 
-pub(crate) type Written<H> = Writer<File, H, FileJobs<H>>;
-
-/// A folder for files, and a pool of two workers.
+/// A folder for files.
 #[derive(Drop)]
 pub(crate) struct Place<H: Host> {
     rt: H,
-    executor: Executor<FileJobs<H>, H>,
     folder: &'static str,
 }
 
@@ -27,11 +25,7 @@ impl<H: System> Place<H> {
         let mut path = env::temp_dir(&rt)?;
         path.push(folder)?;
         fs::create_dir_all(&rt, &path)?;
-        Ok(Place {
-            rt,
-            executor: Executor::new(rt, Some("2"))?,
-            folder,
-        })
+        Ok(Place { rt, folder })
     }
 
     fn path(&self, name: &str) -> io::Result<PathBuf> {
@@ -41,23 +35,21 @@ impl<H: System> Place<H> {
         Ok(path)
     }
 
-    /// A new file, lent.
-    pub(crate) fn create(&self, name: &str) -> io::Result<Written<H>> {
-        let path = self.path(name)?;
-        Ok(Unblock::new(
-            self.executor.try_clone()?,
-            File::create(&self.rt, &path)?,
-        ))
+    /// A pool of two workers.
+    pub(crate) fn executor(&self) -> io::Result<Executor<FileJobs<H>, H>> {
+        Ok(Executor::new(self.rt, Some("2"))?)
     }
 
-    /// A file with these bytes, lent.
-    pub(crate) fn open(&self, name: &str, bytes: &[u8]) -> io::Result<Read<H>> {
+    /// A new file.
+    pub(crate) fn create(&self, name: &str) -> io::Result<File> {
+        File::create(&self.rt, &self.path(name)?)
+    }
+
+    /// A file with these bytes.
+    pub(crate) fn open(&self, name: &str, bytes: &[u8]) -> io::Result<File> {
         let path = self.path(name)?;
         fs::write(&self.rt, &path, bytes)?;
-        Ok(Unblock::new(
-            self.executor.try_clone()?,
-            File::open(&self.rt, &path)?,
-        ))
+        File::open(&self.rt, &path)
     }
 
     /// What a file has now.

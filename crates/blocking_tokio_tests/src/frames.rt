@@ -1,13 +1,15 @@
 //! Frames of `tokio_util` over lent files.
-use crate::files::{Place, System};
-use blocking::{AsyncRead, AsyncWrite, Host};
+use crate::files::{Lent, Place, System};
+use blocking::{AsyncRead, AsyncWrite, Host, Unblock};
 use blocking_tokio::{CompatReader, CompatWriter};
 use bytes::Bytes;
 use futures::executor::block_on;
 use futures::{SinkExt, StreamExt, TryStreamExt};
 use std::io;
 use std::test::Fail;
-use tokio_util::codec::{FramedRead, FramedWrite, LengthDelimitedCodec, LinesCodec, LinesCodecError};
+use tokio_util::codec::{
+    FramedRead, FramedWrite, LengthDelimitedCodec, LinesCodec, LinesCodecError,
+};
 
 // The lines of what is read, by a codec.
 fn lines_of<A: AsyncRead + Drop, H: Host>(
@@ -33,7 +35,9 @@ fn send<B: AsyncWrite + Drop, H: Host>(rt: &H, writer: B, payload: Bytes) -> io:
 
 fn seen<H: System>(rt: H) -> io::Result<bool> {
     let place = Place::new(rt, "blocking_tokio_frames")?;
-    let lines = lines_of(&rt, place.open("lines", b"one\ntwo\n")?)?;
+    let file = place.open("lines", b"one\ntwo\n")?;
+    let reader: Lent<H> = Unblock::new(place.executor()?, file);
+    let lines = lines_of(&rt, reader)?;
     let mut text = String::new(rt.alloc());
     for line in &lines {
         if let Ok(line) = line {
@@ -41,7 +45,8 @@ fn seen<H: System>(rt: H) -> io::Result<bool> {
             text.push('|')?;
         }
     }
-    let is_shut = send(&rt, place.create("frame")?, Bytes::from_static(b"hello"))?;
+    let writer: Lent<H> = Unblock::new(place.executor()?, place.create("frame")?);
+    let is_shut = send(&rt, writer, Bytes::from_static(b"hello"))?;
     let frame = place.bytes("frame")?;
     Ok(text.as_str() == "one|two|" && is_shut && frame.as_slice() == b"\0\0\0\x05hello".as_slice())
 }

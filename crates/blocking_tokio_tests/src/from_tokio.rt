@@ -1,9 +1,10 @@
 //! What the kit reads and writes, as readers and writers of this library.
-use crate::files::{Place, System};
-use blocking::{AsyncReadExt, AsyncWriteExt, Copier, Host};
+use crate::files::{Lent, Place, System};
+use blocking::{AsyncReadExt, AsyncWriteExt, Copier, Host, Unblock};
 use blocking_tokio::FromTokio;
-use futures::executor::block_on;
+use bytes::BytesMut;
 use futures::TryFutureExt;
+use futures::executor::block_on;
 use futures::future::join;
 use std::io;
 use std::test::Fail;
@@ -13,7 +14,8 @@ use tokio::io::{duplex, read_to_end, write_all};
 fn received<H: System>(rt: H) -> io::Result<bool> {
     let place = Place::new(rt, "blocking_tokio_from")?;
     let (near, far) = duplex(rt.alloc(), 3)?;
-    let copier = Copier::new(rt.alloc(), FromTokio::new(near), place.create("to")?, 4)?;
+    let to: Lent<H> = Unblock::new(place.executor()?, place.create("to")?);
+    let copier = Copier::new(rt.alloc(), FromTokio::new(near), to, 4)?;
     let sending = write_all(far, b"hello".as_slice()).map_ok(|_| ());
     let (copied, sent) = block_on(&rt, join(copier, sending))?;
     sent?;
@@ -26,7 +28,7 @@ fn ends_by_a_close<H: Host>(rt: &H) -> io::Result<bool> {
     let mut writer = FromTokio::new(near);
     block_on(rt, writer.write_all(b"abc"))??;
     block_on(rt, writer.close())??;
-    let (_, read) = block_on(rt, read_to_end(far, Vec::new(rt.alloc())))??;
+    let (_, read) = block_on(rt, read_to_end(far, BytesMut::new(rt.alloc())))??;
     Ok(writer.is_closed() && read.as_slice() == b"abc".as_slice())
 }
 

@@ -1,6 +1,6 @@
 //! The lines of a file that is lent, by the kit's `BufReader`.
-use crate::files::{Place, System};
-use blocking::{AsyncRead, Host};
+use crate::files::{Lent, Place, System};
+use blocking::{AsyncRead, Host, Unblock};
 use blocking_tokio::CompatReader;
 use futures::TryStreamExt;
 use futures::executor::block_on;
@@ -18,7 +18,8 @@ fn lines_of<A: AsyncRead + Drop, H: Host>(rt: &H, reader: A) -> io::Result<Vec<S
 
 fn seen<H: System>(rt: H) -> io::Result<bool> {
     let place = Place::new(rt, "blocking_tokio_lines")?;
-    let reader = place.open("three", b"one\n\nand three\r\nno end")?;
+    let file = place.open("three", b"one\n\nand three\r\nno end")?;
+    let reader: Lent<H> = Unblock::new(place.executor()?, file);
     let seen = lines_of(&rt, reader)?;
     let mut text = String::new(rt.alloc());
     for line in &seen {

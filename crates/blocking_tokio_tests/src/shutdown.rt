@@ -1,6 +1,6 @@
 //! A writer that is shut down, and faults as the kit has them.
-use crate::files::{Place, System};
-use blocking::{AsyncRead, AsyncWrite, Host};
+use crate::files::{Lent, Place, System};
+use blocking::{AsyncRead, AsyncWrite, Host, Unblock};
 use blocking_tokio::{CompatReader, CompatWriter};
 use futures::executor::block_on;
 use std::io;
@@ -40,11 +40,15 @@ fn read_past_the_end<A: AsyncRead + Drop, H: Host>(rt: &H, reader: A) -> io::Res
 
 fn fails_as_told<H: System>(rt: H) -> io::Result<bool> {
     let place = Place::new(rt, "blocking_tokio_shutdown")?;
-    let after = written_after_a_shutdown(&rt, place.create("to")?)?;
-    let past = read_past_the_end(&rt, place.open("three", b"abc")?)?;
-    Ok(after == Some(ErrorKind::BrokenPipe)
-        && past == ErrorKind::UnexpectedEof
-        && place.bytes("to")?.as_slice() == b"kept".as_slice())
+    let writer: Lent<H> = Unblock::new(place.executor()?, place.create("to")?);
+    let after = written_after_a_shutdown(&rt, writer)?;
+    let reader: Lent<H> = Unblock::new(place.executor()?, place.open("three", b"abc")?);
+    let past = read_past_the_end(&rt, reader)?;
+    Ok(
+        after == Some(ErrorKind::BrokenPipe)
+            && past == ErrorKind::UnexpectedEof
+            && place.bytes("to")?.as_slice() == b"kept".as_slice(),
+    )
 }
 
 #[test]
