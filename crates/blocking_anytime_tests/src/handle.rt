@@ -31,11 +31,9 @@ impl Sheet {
 
 impl Read for Sheet {
     fn read(&mut self, buf: &mut [u8]) -> io::Result<usize> {
-        let mut count = 0usize;
-        for (to, from) in buf.iter_mut().zip(self.bytes.iter().skip(self.place)) {
-            *to = *from;
-            count = count.saturating_add(1);
-        }
+        let rest = self.bytes.get(self.place..).unwrap_or(&[]);
+        let count = buf.len().min(rest.len());
+        buf[..count].copy_from_slice(&rest[..count]);
         self.place = self.place.saturating_add(count);
         Ok(count)
     }
@@ -43,15 +41,14 @@ impl Read for Sheet {
 
 impl Write for Sheet {
     fn write(&mut self, bytes: &[u8]) -> io::Result<usize> {
-        let mut count = 0usize;
-        for (to, from) in self.bytes.iter_mut().skip(self.place).zip(bytes) {
-            *to = *from;
-            count = count.saturating_add(1);
-        }
-        self.place = self.place.saturating_add(count);
+        let at = self.place.min(self.bytes.len());
+        let rest = &mut self.bytes[at..];
+        let count = bytes.len().min(rest.len());
         if count == 0 && !bytes.is_empty() {
             return Err(io::Error::from(ErrorKind::StorageFull));
         }
+        rest[..count].copy_from_slice(&bytes[..count]);
+        self.place = self.place.saturating_add(count);
         Ok(count)
     }
 
