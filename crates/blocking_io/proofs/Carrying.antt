@@ -13,24 +13,8 @@ use Rattle.blocking_io.specs.Copies.{Acts, Carries, EndsFlushed, EndsRead, Passe
 use Rattle.blocking_io.specs.CopySteps.{AnswersTo, IsWhole, IsWholeAt, StandsAt, is_over, rest_of}
 use Rattle.blocking_io.specs.Polled.{ReaderPoll, WriterPoll, OfFlush, OfRead, OfWrite}
 use Rattle.blocking_io.specs.declared.copy.Copier.{Copier}
+use Rattle.blocking_io.proofs.Passes.{assoc, passes_join, read_on, written_on}
 use Rattle.blocking_io.proofs.CopyBytes.{StaysPut, and_nothing, counted, flush_reads_no_more, given, is_done_reading, read_ends, read_goes_on, some_rest, stays_counted, stopped, taken, was_whole, whole_or_not, write_goes_on, write_is_no_end}
-
-passes_join : {S P : Type 0} (polls : S → P → S → Type 0) (old mid new : S) (xs ys : List P) → Passes polls old xs mid → Passes polls mid ys new
-    → Passes polls old (xs ++ ys) new
-passes_join {S = S} polls old mid new [] ys first rest = let Q : S → Type 0 = λ m. Passes polls m ys new in subst Q first rest
-passes_join polls old mid new (x ∷ xs) ys first rest = (first.0, first.1, passes_join polls first.0 mid new xs ys first.2 rest)
-
-assoc : (xs ys zs : List ℕ) → (xs ++ ys) ++ zs ≡ xs ++ (ys ++ zs)
-assoc xs ys zs = search (rules, common_steps)
-
-read_on : (xs ys : List ReaderPoll) → all_read (xs ++ ys) ≡ all_read xs ++ all_read ys
-read_on [] ys = refl
-read_on (OfRead room x ∷ xs) ys = ap (λ l. bytes_of x ++ l) (read_on xs ys) ∙ sym (assoc (bytes_of x) (all_read xs) (all_read ys))
-
-written_on : (xs ys : List WriterPoll) → all_written (xs ++ ys) ≡ all_written xs ++ all_written ys
-written_on [] ys = refl
-written_on (OfWrite x ∷ xs) ys = ap (λ l. bytes_of x ++ l) (written_on xs ys) ∙ sym (assoc (bytes_of x) (all_written xs) (all_written ys))
-written_on (OfFlush x ∷ xs) ys = written_on xs ys
 
 flushed_on : (xs ys : List WriterPoll) → EndsFlushed ys → EndsFlushed (xs ++ ys)
 flushed_on xs ys ends = (xs ++ ends.0, ap (λ l. xs ++ l) ends.1 ∙ sym (polls_assoc xs ends.0 _))

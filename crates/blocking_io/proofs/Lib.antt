@@ -3,3 +3,4 @@ mod Copied
 mod Copies
 mod CopyBytes
 mod Futures
+pub mod Passes

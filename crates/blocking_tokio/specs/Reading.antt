@@ -1,24 +1,12 @@
 -- What the kit's traits ask of a reader, said by the polls of one of ours, with the proofs of their laws.
-use Rattle.std.proofs.Common.{◌≡◌, ◌∙◌, ap, sym, subst, refl, rules, ℕ, ◌<◌, List, [], ◌∷◌, ◌++◌, Ok, Err}
-use Rattle.std.proofs.lemmas.Grind.{common_steps}
+use Rattle.std.proofs.Common.{◌≡◌, ◌∙◌, ap, refl, ℕ, ◌<◌, List, [], ◌++◌, Ok, Err}
 use Rattle.std.specs.declared.io.Error.{Error}
 use Rattle.futures.specs.declared.task.Poll.TheVariants.{Ready}
 use Rattle.blocking_core.specs.Faults.{IsToldAs}
 use Rattle.blocking_core.specs.declared.io.Fault.{Fault}
-use Rattle.blocking_io.specs.Copies.{Passes, all_read, bytes_of}
+use Rattle.blocking_io.specs.Copies.{Passes, all_read}
 use Rattle.blocking_io.specs.Polled.{ReaderPoll, OfRead}
-
-passes_join : {S P : Type 0} (polls : S → P → S → Type 0) (old mid new : S) (xs ys : List P) → Passes polls old xs mid → Passes polls mid ys new
-    → Passes polls old (xs ++ ys) new
-passes_join {S = S} polls old mid new [] ys first rest = let Q : S → Type 0 = λ m. Passes polls m ys new in subst Q first rest
-passes_join polls old mid new (x ∷ xs) ys first rest = (first.0, first.1, passes_join polls first.0 mid new xs ys first.2 rest)
-
-assoc : (xs ys zs : List ℕ) → (xs ++ ys) ++ zs ≡ xs ++ (ys ++ zs)
-assoc xs ys zs = search (rules, common_steps)
-
-read_on : (xs ys : List ReaderPoll) → all_read (xs ++ ys) ≡ all_read xs ++ all_read ys
-read_on [] ys = refl
-read_on (OfRead room x ∷ xs) ys = ap (λ l. bytes_of x ++ l) (read_on xs ys) ∙ sym (assoc (bytes_of x) (all_read xs) (all_read ys))
+use Rattle.blocking_io.proofs.Passes.{passes_join, read_on}
 
 module _ {A : Type 0} (reads : A → ReaderPoll → A → Type 0) where
   -- polls led from the one state to the other, and these are all bytes that they gave, in order

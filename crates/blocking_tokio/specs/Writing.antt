@@ -1,25 +1,12 @@
 -- What the kit's traits ask of a writer, said by the polls of one of ours, with the proofs of their laws.
-use Rattle.std.proofs.Common.{◌≡◌, ◌⊎◌, ◌∙◌, ap, sym, subst, refl, rules, ℕ, Bool, true, false, List, [], ◌∷◌, ◌++◌, Ok, Err, append-nil}
-use Rattle.std.proofs.lemmas.Grind.{common_steps}
+use Rattle.std.proofs.Common.{◌≡◌, ◌⊎◌, ◌∙◌, ap, sym, subst, refl, ℕ, Bool, true, false, List, [], ◌++◌, Ok, Err, append-nil}
 use Rattle.std.specs.declared.io.Error.{Error}
 use Rattle.futures.specs.declared.task.Poll.TheVariants.{Ready}
 use Rattle.blocking_core.specs.Faults.{IsToldAs}
 use Rattle.blocking_core.specs.declared.io.Fault.{Fault}
-use Rattle.blocking_io.specs.Copies.{Passes, all_written, bytes_of}
+use Rattle.blocking_io.specs.Copies.{Passes, all_written}
 use Rattle.blocking_io.specs.Polled.{WriterPoll, OfFlush, OfWrite}
-
-passes_join : {S P : Type 0} (polls : S → P → S → Type 0) (old mid new : S) (xs ys : List P) → Passes polls old xs mid → Passes polls mid ys new
-    → Passes polls old (xs ++ ys) new
-passes_join {S = S} polls old mid new [] ys first rest = let Q : S → Type 0 = λ m. Passes polls m ys new in subst Q first rest
-passes_join polls old mid new (x ∷ xs) ys first rest = (first.0, first.1, passes_join polls first.0 mid new xs ys first.2 rest)
-
-assoc : (xs ys zs : List ℕ) → (xs ++ ys) ++ zs ≡ xs ++ (ys ++ zs)
-assoc xs ys zs = search (rules, common_steps)
-
-written_on : (xs ys : List WriterPoll) → all_written (xs ++ ys) ≡ all_written xs ++ all_written ys
-written_on [] ys = refl
-written_on (OfWrite x ∷ xs) ys = ap (λ l. bytes_of x ++ l) (written_on xs ys) ∙ sym (assoc (bytes_of x) (all_written xs) (all_written ys))
-written_on (OfFlush x ∷ xs) ys = written_on xs ys
+use Rattle.blocking_io.proofs.Passes.{passes_join, written_on}
 
 module _ {A : Type 0} (writes : A → WriterPoll → A → Type 0) where
   -- polls of writes and flushes led from the one state to the other, and these are all bytes that they took, in order

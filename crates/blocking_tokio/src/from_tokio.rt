@@ -61,7 +61,7 @@ impl<R: tokio::io::AsyncRead> AsyncRead for FromTokio<R> {
 }
 
 impl<W: tokio::io::AsyncWrite> AsyncWrite for FromTokio<W> {
-    ghost use Rattle.std.specs.Prelude.{IfOk};
+    ghost use Rattle.std.specs.Prelude.{IfOk, IfErr};
     ghost use Rattle.futures.specs.Poll.{IfReady, OnPending};
     ghost use Rattle.futures.specs.Task.{IsArmed, Keeps};
     ghost use Rattle.blocking_tokio.specs.FromKit.{ClosedBy, WrittenBy};
@@ -81,6 +81,8 @@ impl<W: tokio::io::AsyncWrite> AsyncWrite for FromTokio<W> {
     fn poll_close(&mut self, cx: &mut Context<'_>) -> Poll<Result<(), IoFault>>
         ensures closed { IfReady result (λ r. IfOk r (λ _. self.new.is_closed ≡ true)) }
         ensures by { self.old.is_closed ≡ false → IfReady result (λ r. IfOk r (λ _. ClosedBy W.writes W.is_flushed W.is_shut_down self.new.inner)) }
+        ensures fault { IfReady result (λ r. IfErr r (λ _. self.new.is_closed ≡ false)) }
+        ensures waits { OnPending result (self.new.is_closed ≡ false) }
         ensures armed { OnPending result (IsArmed cx.new) }
         ensures kept { Keeps cx.old cx.new }
     {
