@@ -4,9 +4,11 @@
 //! calls has to be said by a type.
 #![tactic(auto)]
 
+mod call_set;
 mod close;
 mod fused_task;
 mod open;
 
+pub use call_set::CallSet;
 pub use fused_task::FusedTask;
 pub use open::{Open, OpenItems, OpenReader, OpenWriter};

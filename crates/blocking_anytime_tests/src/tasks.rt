@@ -1,11 +1,10 @@
 //! Calls in sets and in pairs.
 use crate::walker::bytes_in;
 use blocking::{Call, CallJob, Executor, Host, unblock};
-use blocking_anytime::FusedTask;
+use blocking_anytime::{CallSet, FusedTask};
 use futures::StreamExt;
 use futures::executor::block_on;
 use futures::future::join;
-use futures::stream::FuturesUnordered;
 use futures::task::Poll;
 use futures::test::MockTask;
 use std::test::Fail;
@@ -32,19 +31,19 @@ type Doublers<H> = Executor<CallJob<Double, H>, H>;
 // Doubles the numbers below eight, and whatever comes below 50 once more, in a set. How many answers came, and their sum.
 fn in_a_set<H: Host>(rt: H) -> io::Result<(u32, u64)> {
     let executor: Doublers<H> = Executor::new(rt, Some("3"))?;
-    let mut tasks: FuturesUnordered<FusedTask<Double, H>> = FuturesUnordered::new(rt.alloc())?;
+    let mut calls = CallSet::new(rt.alloc())?;
     for number in 0..8u32 {
-        tasks.push(FusedTask::new(unblock(&executor, Double(number))?))?;
+        calls.push(unblock(&executor, Double(number))?)?;
     }
     let (mut count, mut sum) = (0u32, 0u64);
     for _ in rt.forever() {
-        let Some(doubled) = block_on(&rt, tasks.next())? else {
+        let Some(doubled) = block_on(&rt, calls.next())? else {
             break;
         };
         count = count.saturating_add(1);
         sum = sum.saturating_add(doubled);
         if doubled == 14 {
-            tasks.push(FusedTask::new(unblock(&executor, Double(100))?))?;
+            calls.push(unblock(&executor, Double(100))?)?;
         }
     }
     Ok((count, sum))

@@ -1,9 +1,8 @@
 //! A walker: the directories of a tree are read on a pool, all that are known at the same time. Each has bytes, and directories in it.
 use blocking::{Call, CallJob, Executor, Host, unblock};
-use blocking_anytime::FusedTask;
+use blocking_anytime::CallSet;
 use futures::TryStreamExt;
 use futures::executor::block_on;
-use futures::stream::FuturesUnordered;
 use std::path::PathBuf;
 use std::{fs, io};
 
@@ -35,15 +34,15 @@ impl Call for List {
 /// The bytes of what is in a tree.
 pub(crate) fn bytes_in<H: Host>(rt: H, files: HostRuntime, path: PathBuf) -> io::Result<u64> {
     let executor: Executor<CallJob<List, H>, H> = Executor::new(rt, Some("16"))?;
-    let (mut bytes, mut lists) = (0u64, FuturesUnordered::new(rt.alloc())?);
-    lists.push(FusedTask::new(unblock(&executor, List { files, path })?))?;
+    let (mut bytes, mut lists) = (0u64, CallSet::new(rt.alloc())?);
+    lists.push(unblock(&executor, List { files, path })?)?;
     for _ in rt.forever() {
         let Some((more, inside)) = block_on(&rt, lists.try_next())?? else {
             break;
         };
         bytes = bytes.saturating_add(more);
         for path in inside {
-            lists.push(FusedTask::new(unblock(&executor, List { files, path })?))?;
+            lists.push(unblock(&executor, List { files, path })?)?;
         }
     }
     Ok(bytes)

@@ -1,10 +1,9 @@
 //! How many bytes a tree has. Its directories are read on a pool, several at the same time.
 use anyhow::{Context, Result};
 use blocking::{Call, CallJob, Executor, Host, unblock};
-use blocking_anytime::FusedTask;
+use blocking_anytime::CallSet;
 use futures::TryStreamExt;
 use futures::executor::block_on;
-use futures::stream::FuturesUnordered;
 use std::path::PathBuf;
 use std::{fs, io};
 
@@ -47,10 +46,10 @@ type Walkers<H> = Executor<CallJob<List, H>, H>;
 fn bytes_of<H: Host>(rt: H, files: HostRuntime, executor: &Walkers<H>, root: &str) -> Result<u64> {
     let meta = fs::symlink_metadata(&files, root)?;
     let mut bytes = meta.len();
-    let mut lists = FuturesUnordered::new(rt.alloc())?;
+    let mut lists = CallSet::new(rt.alloc())?;
     if meta.is_dir() {
         let path = PathBuf::from_str(rt.alloc(), root)?;
-        lists.push(FusedTask::new(unblock(executor, List { files, path })?))?;
+        lists.push(unblock(executor, List { files, path })?)?;
     }
     for _ in rt.forever() {
         let Some((more, inside)) = block_on(&rt, lists.try_next())?? else {
@@ -58,7 +57,7 @@ fn bytes_of<H: Host>(rt: H, files: HostRuntime, executor: &Walkers<H>, root: &st
         };
         bytes = bytes.saturating_add(more);
         for path in inside {
-            lists.push(FusedTask::new(unblock(executor, List { files, path })?))?;
+            lists.push(unblock(executor, List { files, path })?)?;
         }
     }
     Ok(bytes)
