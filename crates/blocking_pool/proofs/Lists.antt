@@ -1,11 +1,11 @@
 -- Numbers that may be equal, and lists of numbers.
-use Rattle.std.proofs.Common.{◌≡◌, ◌≢◌, ℕ, suc, ◌<◌, ◌≤◌, Bool, true, false, cond, eqb, ◌||◌, List, [], ◌∷◌, ◌++◌, length, refl, sym, ap, ◌∙◌, subst, inl, inr, not, arith, nat_cmp}
+use Rattle.std.proofs.Common.{◌≡◌, ◌≢◌, ℕ, suc, ◌<◌, ◌≤◌, Bool, true, false, cond, eqb, ◌||◌, List, [], ◌∷◌, ◌++◌, length, filter, map, Some, option_map, refl, sym, ap, ◌∙◌, subst, inl, inr, not, arith, nat_cmp}
 use Rattle.std.proofs.lemmas.Bool.{eqb-false, eq-eqb, ne_eqb, cases_eq, or_left, or_right, or_parts, or_from, false≢true}
 use Rattle.std.proofs.Math.Bool.{or-false}
 use Rattle.std.proofs.lemmas.Map.Steps.{length-le_from_distinct_below}
 use Rattle.std.specs.List.{IsDistinct, AllByRecursion}
 use Rattle.std.specs.Ordering.{eq_by_cmp}
-use Rattle.blocking_pool.specs.Lists.{is_in, IsOnce, without}
+use Rattle.blocking_pool.specs.Lists.{is_in, IsOnce, without, first_of}
 
 -- what is said of two numbers that may be equal
 pub by_eq : (x y : ℕ) (P : Bool → Type 0) → (x ≡ y → P true) → (x ≢ y → P false) → P (eqb x y)
@@ -106,3 +106,53 @@ IsDistinct-once (x ∷ xs) once = (fresh_each x xs once.0, IsDistinct-once xs on
 -- numbers below a bound, none of them twice, are no more than the bound
 pub length-le_below : (xs : List ℕ) (n : ℕ) → IsOnce xs → ((x : ℕ) → is_in x xs ≡ true → x < n) → length xs ≤ n
 length-le_below xs n once below = length-le_from_distinct_below xs n (IsDistinct-once xs once) below
+
+-- the first of a list is in it
+pub first_in : (x : ℕ) (xs : List ℕ) → first_of xs ≡ Some x → is_in x xs ≡ true
+first_in x [] first = absurd (cc)
+first_in x (y ∷ xs) first = or_left (eqb x y) (is_in x xs) (eq-eqb x y (let e : y ≡ x = cc in sym e))
+
+-- where a test of what a list is mapped to agrees with a test of the list, the same is kept
+pub filter-map : (p : ℕ → Bool) (q : ℕ → Bool) (f : ℕ → ℕ) (xs : List ℕ) → ((x : ℕ) → is_in x xs ≡ true → p (f x) ≡ q x) → filter p (map f xs) ≡ map f (filter q xs)
+filter-map p q f [] same = refl
+filter-map p q f (x ∷ xs) same =
+    ap (λ b. cond b (f x ∷ filter p (map f xs)) (filter p (map f xs))) (same x (is_in-first x xs))
+    ∙ by_test (q x) (filter-map p q f xs (λ y found. same y (or_right (eqb y x) (is_in y xs) found)))
+  where
+    by_test : (b : Bool) → filter p (map f xs) ≡ map f (filter q xs) → cond b (f x ∷ filter p (map f xs)) (filter p (map f xs)) ≡ map f (cond b (x ∷ filter q xs) (filter q xs))
+    by_test true rest = ap (λ ys. f x ∷ ys) rest
+    by_test false rest = rest
+
+pub first_of-map : (f : ℕ → ℕ) (xs : List ℕ) → first_of (map f xs) ≡ option_map f (first_of xs)
+first_of-map f [] = refl
+first_of-map f (x ∷ xs) = refl
+
+-- tests that agree on a list keep the same of it
+pub filter_same : (p q : ℕ → Bool) (xs : List ℕ) → ((x : ℕ) → is_in x xs ≡ true → p x ≡ q x) → filter p xs ≡ filter q xs
+filter_same p q [] same = refl
+filter_same p q (x ∷ xs) same =
+    let rest = filter_same p q xs (λ y found. same y (or_right (eqb y x) (is_in y xs) found)) in
+    let here = same x (is_in-first x xs) in
+    ap (λ b. cond b (x ∷ filter p xs) (filter p xs)) here ∙ ap (λ ys. cond (q x) (x ∷ ys) ys) rest
+
+-- what is kept of a list stood in it, and passes the test
+pub kept_in : (p : ℕ → Bool) (s : ℕ) (xs : List ℕ) → is_in s (filter p xs) ≡ true → (is_in s xs ≡ true) × (p s ≡ true)
+kept_in p s [] found = absurd (false≢true found)
+kept_in p s (x ∷ xs) found = by_test (p x) refl found (λ f. kept_in p s xs f)
+  where
+    by_test : (b : Bool) → p x ≡ b → is_in s (cond b (x ∷ filter p xs) (filter p xs)) ≡ true → (is_in s (filter p xs) ≡ true → (is_in s xs ≡ true) × (p s ≡ true)) → (is_in s (x ∷ xs) ≡ true) × (p s ≡ true)
+    by_test true is f rest =
+        by_eq s x (λ b. (b || is_in s (filter p xs)) ≡ true → ((b || is_in s xs) ≡ true) × (p s ≡ true))
+        (λ same g. (refl, ap p same ∙ is)) (λ far g. rest g) f
+    by_test false is f rest = (or_right (eqb s x) (is_in s xs) (rest f).0, (rest f).1)
+
+-- what stands in a list and passes the test is kept
+pub in_kept : (p : ℕ → Bool) (s : ℕ) (xs : List ℕ) → is_in s xs ≡ true → p s ≡ true → is_in s (filter p xs) ≡ true
+in_kept p s [] found is = absurd (false≢true found)
+in_kept p s (x ∷ xs) found is = by_test (p x) refl found (λ f. in_kept p s xs f is)
+  where
+    by_test : (b : Bool) → p x ≡ b → is_in s (x ∷ xs) ≡ true → (is_in s xs ≡ true → is_in s (filter p xs) ≡ true) → is_in s (cond b (x ∷ filter p xs) (filter p xs)) ≡ true
+    by_test true here f rest =
+        by_eq s x (λ b. (b || is_in s xs) ≡ true → (b || is_in s (filter p xs)) ≡ true) (λ same g. refl) (λ far g. rest g) f
+    by_test false here f rest =
+        by_eq s x (λ b. (b || is_in s xs) ≡ true → is_in s (filter p xs) ≡ true) (λ same g. absurd (false≢true (sym here ∙ ap p (sym same) ∙ is))) (λ far g. rest g) f

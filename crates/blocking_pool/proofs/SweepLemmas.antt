@@ -11,45 +11,17 @@ use Rattle.std.specs.List.Sorted.{IsPermutation, IsNonDecreasingBy}
 use Rattle.slab.specs.Slab.{Slab, get}
 use Rattle.blocking_pool.specs.Batch.{serials_of, IsRising}
 use Rattle.blocking_pool.specs.Chain.{Chain}
+use Rattle.blocking_pool.specs.Clients.{tally_at}
 use Rattle.blocking_pool.specs.Lists.{is_in, IsOnce, first_of, rest_after}
+use Rattle.blocking_pool.specs.Ready.{client_of}
 use Rattle.blocking_pool.specs.Jobs.{Job, Jobs, JobNumber, is_parked, is_parked_job, if_at, job_of, standing_of, entry_after_requeue, amend, jobs_after_requeue}
 use Rattle.blocking_pool.specs.Sweeps.{is_due, swept, serials_below}
-use Rattle.blocking_pool.specs.Tables.{Table, job_at, serial_or_zero, serials_at, is_parked_entry, HoldsParked, Becomes, number_at, IsAskedAt, GathersAt, Gathers, SweepsAll}
+use Rattle.blocking_pool.specs.Tables.{Table, job_at, serial_or_zero, serials_at, is_parked_entry, HoldsParked, Becomes, client_at, AreCounted, MayEnter, number_at, IsAskedAt, GathersAt, Gathers, SweepsAll}
 use Rattle.blocking_pool.specs.declared.pool.standing.Standing.TheVariants.{Parked}
 use Rattle.blocking_pool.specs.declared.pool.table.Entry.{Entry}
-use Rattle.blocking_pool.proofs.Lists.{by_eq, is_in-append, is_in-first, is_in-last, is_in-push, IsDistinct-once, length-le_below, turned}
-use Rattle.blocking_pool.proofs.Standings.{parked_is, parked_job}
+use Rattle.blocking_pool.proofs.Lists.{by_eq, is_in-append, is_in-first, is_in-last, is_in-push, filter_same, kept_in, in_kept, IsDistinct-once, length-le_below, turned}
+use Rattle.blocking_pool.proofs.Standings.{parked_is, parked_job, standing_job}
 use Rattle.blocking_pool.proofs.TableLemmas.{jobs_of, AreApart, tabled, from_there, job_here, at_insert_same, at_insert_other, amend_found}
-
--- tests that agree on a list keep the same of it
-pub filter_same : (p q : ℕ → Bool) (xs : List ℕ) → ((x : ℕ) → is_in x xs ≡ true → p x ≡ q x) → filter p xs ≡ filter q xs
-filter_same p q [] same = refl
-filter_same p q (x ∷ xs) same =
-    let rest = filter_same p q xs (λ y found. same y (or_right (eqb y x) (is_in y xs) found)) in
-    let here = same x (is_in-first x xs) in
-    ap (λ b. cond b (x ∷ filter p xs) (filter p xs)) here ∙ ap (λ ys. cond (q x) (x ∷ ys) ys) rest
-
--- what is kept of a list stood in it, and passes the test
-pub kept_in : (p : ℕ → Bool) (s : ℕ) (xs : List ℕ) → is_in s (filter p xs) ≡ true → (is_in s xs ≡ true) × (p s ≡ true)
-kept_in p s [] found = absurd (false≢true found)
-kept_in p s (x ∷ xs) found = by_test (p x) refl found (λ f. kept_in p s xs f)
-  where
-    by_test : (b : Bool) → p x ≡ b → is_in s (cond b (x ∷ filter p xs) (filter p xs)) ≡ true → (is_in s (filter p xs) ≡ true → (is_in s xs ≡ true) × (p s ≡ true)) → (is_in s (x ∷ xs) ≡ true) × (p s ≡ true)
-    by_test true is f rest =
-        by_eq s x (λ b. (b || is_in s (filter p xs)) ≡ true → ((b || is_in s xs) ≡ true) × (p s ≡ true))
-        (λ same g. (refl, ap p same ∙ is)) (λ far g. rest g) f
-    by_test false is f rest = (or_right (eqb s x) (is_in s xs) (rest f).0, (rest f).1)
-
--- what stands in a list and passes the test is kept
-pub in_kept : (p : ℕ → Bool) (s : ℕ) (xs : List ℕ) → is_in s xs ≡ true → p s ≡ true → is_in s (filter p xs) ≡ true
-in_kept p s [] found is = absurd (false≢true found)
-in_kept p s (x ∷ xs) found is = by_test (p x) refl found (λ f. in_kept p s xs f is)
-  where
-    by_test : (b : Bool) → p x ≡ b → is_in s (x ∷ xs) ≡ true → (is_in s xs ≡ true → is_in s (filter p xs) ≡ true) → is_in s (cond b (x ∷ filter p xs) (filter p xs)) ≡ true
-    by_test true here f rest =
-        by_eq s x (λ b. (b || is_in s xs) ≡ true → (b || is_in s (filter p xs)) ≡ true) (λ same g. refl) (λ far g. rest g) f
-    by_test false here f rest =
-        by_eq s x (λ b. (b || is_in s xs) ≡ true → is_in s (filter p xs) ≡ true) (λ same g. absurd (false≢true (sym here ∙ ap p (sym same) ∙ is))) (λ far g. rest g) f
 
 absent_in : (x : ℕ) (xs : List ℕ) → (is_in x xs ≡ true → ⊥) → is_in x xs ≡ false
 absent_in x xs never = by_test (is_in x xs) refl
@@ -183,23 +155,23 @@ pub from_first : (places : List ℕ) → from_on (first_of places) places ≡ pl
 from_first [] = refl
 from_first (place ∷ places) = ap (λ b. place ∷ cond b places (rest_after place places)) (eq-eqb place place refl)
 
-from_next : (place : ℕ) (all rest : List ℕ) → IsOnce all → rest_after place all ≡ rest → from_on (first_of rest) all ≡ rest
+pub from_next : (place : ℕ) (all rest : List ℕ) → IsOnce all → rest_after place all ≡ rest → from_on (first_of rest) all ≡ rest
 from_next place all [] once is = refl
 from_next place all (q ∷ rest) once is = ap (λ qs. q ∷ qs) (rest_again place q all rest once is)
 
 -- the place stands in what is split before it
-in_middle : (place : ℕ) (done rest : List ℕ) → is_in place (done ++ place ∷ rest) ≡ true
+pub in_middle : (place : ℕ) (done rest : List ℕ) → is_in place (done ++ place ∷ rest) ≡ true
 in_middle place done rest = is_in-append place done (place ∷ rest) ∙ or_right (is_in place done) (is_in place (place ∷ rest)) (is_in-first place rest)
 
 -- what stands before a place isn't the place
-not_before : (place : ℕ) (done rest : List ℕ) → IsOnce (done ++ place ∷ rest) → is_in place done ≡ false
+pub not_before : (place : ℕ) (done rest : List ℕ) → IsOnce (done ++ place ∷ rest) → is_in place done ≡ false
 not_before place [] rest once = refl
 not_before place (p ∷ done) rest once =
     by_eq place p (λ b. (b || is_in place done) ≡ false)
     (λ same. absurd (false≢true (sym once.0 ∙ ap (λ n. is_in n (done ++ place ∷ rest)) (sym same) ∙ in_middle place done rest)))
     (λ differs. not_before place done rest once.1)
 
-shorter : (p : ℕ → Bool) (xs : List ℕ) → length (filter p xs) ≤ length xs
+pub shorter : (p : ℕ → Bool) (xs : List ℕ) → length (filter p xs) ≤ length xs
 shorter p [] = omega arith
 shorter p (x ∷ xs) = by_test (p x) (shorter p xs)
   where
@@ -532,28 +504,53 @@ module _ {J : Type 0} where
 
   -- the table, in which these jobs stand in the queue again
   abbrev pub HasEntered : Table J → List JobNumber → Table J → Type 0
-  HasEntered old numbers new = Becomes old new (old.queue ++ serials_of numbers) (jobs_after_requeue old.jobs (serials_of numbers))
+  HasEntered old numbers new = Becomes old new (old.queue ++ serials_of numbers) (jobs_after_requeue old.jobs (serials_of numbers)) (tally_at old.tallies)
 
   -- a job that is yet to enter is parked
   pub still_parked : (first now : Table J) (numbers : List JobNumber) (i : ℕ) (number : JobNumber) → i < length numbers → number ≡ get_or numbers i number → IsOnce (serials_of numbers)
-      → All (λ no. standing_of first.jobs no ≡ Some Parked) numbers → HasEntered first (take i numbers) now → standing_of now.jobs number ≡ Some Parked
+      → All (λ no. MayEnter first no) numbers → HasEntered first (take i numbers) now → MayEnter now number
   still_parked first now numbers i number less is once parked entered =
-      ap (λ j. option_map (λ job. job.standing) (if_at number.place j))
-      (ap (λ js. at js number.serial) entered.jobs_are ∙ again_elsewhere first.jobs (serials_of (take i numbers)) number.serial
-      (subst (λ no. is_in no.serial (serials_of (take i numbers)) ≡ false) (sym is) (not_taken numbers i number less once)))
-      ∙ subst (λ no. standing_of first.jobs no ≡ Some Parked) (sym is) (All-get_or (λ no. standing_of first.jobs no ≡ Some Parked) numbers i number less parked)
+      record {
+        stands = ap (λ j. option_map (λ job. job.standing) (if_at number.place j)) same ∙ before.stands;
+        counted = subst (λ tally. 0 < tally.jobs)
+            (sym (entered.tallies_are (client_at now number) ∙ ap (λ j. tally_at first.tallies (client_of (if_at number.place j))) same)) before.counted;
+      }
+    where
+      same : at now.jobs number.serial ≡ at first.jobs number.serial
+      same =
+          ap (λ js. at js number.serial) entered.jobs_are
+          ∙ again_elsewhere first.jobs (serials_of (take i numbers)) number.serial
+          (subst (λ no. is_in no.serial (serials_of (take i numbers)) ≡ false) (sym is) (not_taken numbers i number less once))
+
+      before : MayEnter first number
+      before = subst (λ no. MayEnter first no) (sym is) (All-get_or (λ no. MayEnter first no) numbers i number less parked)
 
   -- one more has entered
   pub one_entered : (first now new : Table J) (numbers more : List JobNumber) (number : JobNumber) → more ≡ numbers ++ number ∷ [] → HasEntered first numbers now
-      → Becomes now new (now.queue ++ number.serial ∷ []) (amend now.jobs number.serial entry_after_requeue) → HasEntered first more new
+      → Becomes now new (now.queue ++ number.serial ∷ []) (amend now.jobs number.serial entry_after_requeue) (tally_at now.tallies) → HasEntered first more new
   one_entered first now new numbers more number are entered becomes =
       subst (λ ns. HasEntered first ns new) (sym are)
-      (subst (λ ss. Becomes first new (first.queue ++ ss) (jobs_after_requeue first.jobs ss)) (sym (map_push (λ no. no.serial) numbers number))
+      (subst (λ ss. Becomes first new (first.queue ++ ss) (jobs_after_requeue first.jobs ss) (tally_at first.tallies)) (sym (map_push (λ no. no.serial) numbers number))
       (record {
         queue_is = becomes.queue_is ∙ ap (λ q. q ++ number.serial ∷ []) entered.queue_is ∙ append_assoc first.queue (serials_of numbers) (number.serial ∷ []);
         room_is = becomes.room_is ∙ entered.room_is;
         jobs_are = becomes.jobs_are ∙ ap (λ js. amend js number.serial entry_after_requeue) entered.jobs_are ∙ sym (again_push first.jobs (serials_of numbers) number.serial);
+        tallies_are = λ c. becomes.tallies_are c ∙ entered.tallies_are c;
+        limit_is = becomes.limit_is ∙ entered.limit_is;
       }))
+
+  -- a parked job of a table whose jobs are counted may enter
+  pub may_enter : (table : Table J) (number : JobNumber) → AreCounted table → standing_of table.jobs number ≡ Some Parked → MayEnter table number
+  may_enter table number counted parked =
+      let job = standing_job (job_of table.jobs number) Parked parked in
+      record {
+        stands = parked;
+        counted = subst (λ client. 0 < (tally_at table.tallies client).jobs) (sym (ap client_of job.1)) (counted number.serial job.0 (job_of_found table.jobs number job.0 job.1).0);
+      }
+
+  -- and so may all that were gathered
+  pub may_all : (may_answer : J → Bool → Type 0) (table : Table J) (numbers : List JobNumber) → AreCounted table → Gathers may_answer table.jobs numbers → All (λ number. MayEnter table number) numbers
+  may_all may_answer table numbers counted gathered k d less = may_enter table (get_or numbers k d) counted (gathered.parked k d less)
 
   -- what was gathered, and stands in the order of the serials, has entered
   pub sweeps_all : (may_answer : J → Bool → Type 0) (old new : Table J) (xs ys due : List JobNumber) → Gathers may_answer old.jobs xs → IsPermutation xs ys → IsNonDecreasingBy (λ no. no.serial) ys

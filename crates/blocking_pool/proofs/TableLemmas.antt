@@ -1,23 +1,28 @@
 -- How a change of one place of the table changes the jobs and the queue.
 use Rattle.std.proofs.Common.{◌≡◌, ◌≢◌, ◌⊎◌, ℕ, zero, suc, ◌+◌, ◌<◌, Bool, true, false, cond, eqb, not, List, [], ◌∷◌, ◌++◌, map, get_or, Option, Some, None, is_some, IsSome, refl, sym, ap, ◌∙◌, subst, inl, inr, arith, add-zero, nat_cmp}
-use Rattle.std.proofs.lemmas.Bool.{eq-eqb, ne_eqb, cases_eq, or_left, or_right, false≢true}
+use Rattle.std.proofs.lemmas.Bool.{eq-eqb, ne_eqb, cases_eq, or_right, false≢true}
 use Rattle.std.proofs.lemmas.List.{map_push}
 use Rattle.std.specs.Cmp.{nat_cmp_total}
 use Rattle.std.specs.FinMap.{find, get as at, insert, remove, from_entries, get-from_entries, get-insert, get-remove, same_map, nat_cmp-IsAntisymmetric}
 use Rattle.slab.specs.Slab.{Slab, get, Updates, with_value}
 use Rattle.slab.proofs.SlabLemmas.{Updates-with_value}
 use Rattle.blocking_pool.specs.Chain.{Chain}
-use Rattle.blocking_pool.specs.Lists.{is_in, IsOnce, without, first_of}
+use Rattle.blocking_pool.specs.Lists.{is_in, IsOnce, without}
 use Rattle.blocking_pool.specs.Jobs.{Job, Jobs, JobNumber, is_queued, is_running, HaveValues, new_job, if_at, job_of, is_running_as, jobs_after_change, amend}
 use Rattle.blocking_pool.specs.Tables.{job_at, listed, serial_or_zero, serials_at, IsTable}
 use Rattle.blocking_pool.specs.declared.pool.standing.Standing.TheVariants.{Queued, Running}
 use Rattle.blocking_pool.specs.declared.pool.table.Entry.{Entry}
-use Rattle.blocking_pool.proofs.Lists.{eq_by_nat_cmp, by_eq, is_in-first, is_in-last, is_in-push, same_ends, without-first, is_in-without, is_in-without_itself, IsOnce-without, IsOnce-push}
+use Rattle.blocking_pool.proofs.Lists.{eq_by_nat_cmp, by_eq, is_in-first, is_in-last, is_in-push, same_ends, is_in-without, is_in-without_itself, IsOnce-without, IsOnce-push, filter-map}
 use Rattle.blocking_pool.proofs.Standings.{queued_is, running_job}
 
 pub some_or_none : {X : Type 0} (x : Option X) → (x ≡ None) ⊎ ((y : X) × (x ≡ Some y))
 some_or_none None = inl refl
 some_or_none (Some y) = inr (y, refl)
+
+-- what is some is of something
+pub some_of : {X : Type 0} (x : Option X) → is_some x ≡ true → (y : X) × (x ≡ Some y)
+some_of None is = absurd (false≢true is)
+some_of (Some y) is = (y, refl)
 
 some_is : {X : Type 0} (x : Option X) (y : X) → x ≡ Some y → IsSome x
 some_is x y is = subst IsSome (sym is) refl
@@ -290,16 +295,16 @@ module _ {J : Type 0} where
       absurd (let there = (tabled slab apart).here other was found in let none = ap (at (jobs_of slab)) same ∙ fresh in cc)
 
   -- a new entry at the queue's end
-  pub record Inserts (old new : Slab (Entry J)) (chain next : Chain) (place serial : ℕ) (value : J) : Type 0 where
+  pub record Inserts (old new : Slab (Entry J)) (chain next : Chain) (place serial client : ℕ) (value : J) : Type 0 where
     pub table : IsTable new next
     pub queue : serials_at new next.places ≡ serials_at old chain.places ++ serial ∷ []
-    pub jobs : jobs_of new ≡ insert (jobs_of old) serial (new_job place value)
+    pub jobs : jobs_of new ≡ insert (jobs_of old) serial (new_job place client value)
 
-  pub inserts : (old new : Slab (Entry J)) (chain next : Chain) (place serial : ℕ) (value : J) → IsTable old chain
+  pub inserts : (old new : Slab (Entry J)) (chain next : Chain) (place serial client : ℕ) (value : J) → IsTable old chain
       → get old place ≡ None → at (jobs_of old) serial ≡ None → place < chain.room
-      → Updates old new place (Some (record { serial = serial; standing = Queued; woken = false; cancelled = false; value = Some value }))
-      → next ≡ record chain { places = chain.places ++ place ∷ [] } → Inserts old new chain next place serial value
-  inserts old new chain next place serial value table vacant fresh roomy updates pushed =
+      → Updates old new place (Some (record { serial = serial; client = client; standing = Queued; woken = false; cancelled = false; value = Some value }))
+      → next ≡ record chain { places = chain.places ++ place ∷ [] } → Inserts old new chain next place serial client value
+  inserts old new chain next place serial client value table vacant fresh roomy updates pushed =
       record {
         table = subst (IsTable new) (sym pushed) (changed_table old new chain longer place entry changes follows table);
         queue = ap (λ row. map (λ q. serial_or_zero (get new q)) row.places) pushed
@@ -309,7 +314,7 @@ module _ {J : Type 0} where
       }
     where
       entry : Entry J
-      entry = record { serial = serial; standing = Queued; woken = false; cancelled = false; value = Some value }
+      entry = record { serial = serial; client = client; standing = Queued; woken = false; cancelled = false; value = Some value }
 
       longer : Chain
       longer = record chain { places = chain.places ++ place ∷ [] }
@@ -343,18 +348,11 @@ module _ {J : Type 0} where
   abbrev pub taken_by : Entry J → Entry J
   taken_by entry = record entry { standing = Running; woken = false; value = None }
 
-  -- the front entry is taken
+  -- a queued entry is taken
   pub record Takes (old new : Slab (Entry J)) (chain next : Chain) (place : ℕ) (entry : Entry J) : Type 0 where
     pub table : IsTable new next
-    pub front : serials_at old chain.places ≡ entry.serial ∷ serials_at new next.places
+    pub rest : serials_at new next.places ≡ without entry.serial (serials_at old chain.places)
     pub jobs : jobs_of new ≡ insert (jobs_of old) entry.serial (job_at place (taken_by entry))
-
-  pub front_queued : (slab : Slab (Entry J)) (chain : Chain) (place : ℕ) → first_of chain.places ≡ Some place → is_in place chain.places ≡ true
-  front_queued slab chain place front = by_places chain.places front
-    where
-      by_places : (places : List ℕ) → first_of places ≡ Some place → is_in place places ≡ true
-      by_places [] f = absurd (cc)
-      by_places (p ∷ places) f = or_left (eqb place p) (is_in place places) (eq-eqb place p (let e : p ≡ place = cc in sym e))
 
   -- a queued entry has its value
   pub queued_held : (slab : Slab (Entry J)) (chain : Chain) (place : ℕ) (entry : Entry J) → IsTable slab chain → is_in place chain.places ≡ true → get slab place ≡ Some entry → entry.value ≡ None → ⊥
@@ -368,14 +366,24 @@ module _ {J : Type 0} where
       let from = from_there slab (jobs_of slab) serial job (tabled slab table.apart) found in
       subst (λ j. is_some j.value ≡ not (is_running j.standing)) (sym from.3) (table.held job.place from.0 from.1)
 
-  pub takes : (old : Slab (Entry J)) (chain next : Chain) (place : ℕ) (entry : Entry J) → IsTable old chain → first_of chain.places ≡ Some place
+  -- the serials of a row without a place are those of the row without its serial
+  serials_without : (slab : Slab (Entry J)) (chain : Chain) (place : ℕ) (entry : Entry J) → IsTable slab chain → get slab place ≡ Some entry
+      → without entry.serial (serials_at slab chain.places) ≡ serials_at slab (without place chain.places)
+  serials_without slab chain place entry table found =
+      filter-map (λ serial. not (eqb entry.serial serial)) (λ q. not (eqb place q)) (λ q. serial_or_zero (get slab q)) chain.places
+      (λ q within.
+      let there = some_of (get slab q) (table.occupied q within) in
+      by_eq place q (λ b. not (eqb entry.serial (serial_or_zero (get slab q))) ≡ not b)
+      (λ same. ap not (eq-eqb _ _ (sym (ap serial_or_zero (ap (get slab) (sym same) ∙ found)))))
+      (λ differs. ap not (ne_eqb _ _ (λ alike. differs (table.apart place q entry there.0 found there.1 (alike ∙ ap serial_or_zero there.1))))))
+
+  pub takes : (old : Slab (Entry J)) (chain next : Chain) (place : ℕ) (entry : Entry J) → IsTable old chain → is_in place chain.places ≡ true
       → get old place ≡ Some entry → next ≡ record chain { places = without place chain.places }
       → Takes old (with_value old place (taken_by entry)) chain next place entry
-  takes old chain next place entry table front found unlinked =
+  takes old chain next place entry table queued found unlinked =
       record {
         table = subst (IsTable new) (sym unlinked) (changed_table old new chain shorter place taken changes follows table);
-        front = subst (λ places. serials_at old places ≡ entry.serial ∷ serials_at new next.places) (sym split.1)
-            (heads (ap serial_or_zero found) (sym rest_same) (ap (λ row. serials_at new row.places) (sym (unlinked ∙ ap (λ ps. record chain { places = ps }) shorter_is))));
+        rest = ap (λ row. serials_at new row.places) unlinked ∙ rest_same ∙ sym (serials_without old chain place entry table found);
         jobs = changed_jobs old new place taken changes table.apart;
       }
     where
@@ -387,9 +395,6 @@ module _ {J : Type 0} where
 
       shorter : Chain
       shorter = record chain { places = without place chain.places }
-
-      queued : is_in place chain.places ≡ true
-      queued = front_queued old chain place front
 
       updates : Updates old new place (Some taken)
       updates = Updates-with_value old place taken (some_is (get old place) entry found)
@@ -413,24 +418,10 @@ module _ {J : Type 0} where
             once = IsOnce-without place chain.places table.once;
           }
 
-      split : (rest : List ℕ) × (chain.places ≡ place ∷ rest)
-      split = by_places chain.places front
-        where
-          by_places : (places : List ℕ) → first_of places ≡ Some place → (rest : List ℕ) × (places ≡ place ∷ rest)
-          by_places [] f = absurd (cc)
-          by_places (p ∷ places) f = (places, let e : p ≡ place = cc in ap (λ n. n ∷ places) e)
-
-      unrepeated : is_in place split.0 ≡ false
-      unrepeated = (subst IsOnce split.1 table.once).0
-
-      shorter_is : without place chain.places ≡ split.0
-      shorter_is = ap (without place) split.1 ∙ without-first place split.0 unrepeated
-
-      rest_same : map (λ q. serial_or_zero (get new q)) split.0 ≡ map (λ q. serial_or_zero (get old q)) split.0
-      rest_same = same_serials old new split.0 (λ q is. ap serial_or_zero (updates.others q (λ same. false≢true (sym unrepeated ∙ ap (λ n. is_in n split.0) (sym same) ∙ is))))
-
-      heads : {x y : ℕ} {xs ys zs : List ℕ} → x ≡ y → xs ≡ ys → ys ≡ zs → x ∷ xs ≡ y ∷ zs
-      heads e f h = cc
+      rest_same : serials_at new (without place chain.places) ≡ serials_at old (without place chain.places)
+      rest_same =
+          same_serials old new (without place chain.places)
+          (λ q is. ap serial_or_zero (updates.others q (λ same. false≢true (sym (is_in-without_itself place chain.places) ∙ ap (λ n. is_in n (without place chain.places)) (sym same) ∙ is))))
 
   -- the job of a number, by the entry at its place
   pub job_here : (slab : Slab (Entry J)) (number : JobNumber) (entry : Entry J) → AreApart slab → get slab number.place ≡ Some entry → entry.serial ≡ number.serial → job_of (jobs_of slab) number ≡ Some (job_at number.place entry)

@@ -25,10 +25,11 @@ abbrev pub is_parked : Standing → Bool
 is_parked Parked = true
 is_parked _ = false
 
--- A job that isn't over: where it stands in the table, how it stands, whether a wake met it since its last take,
--- whether it was cancelled, and its value, which the worker has while it runs.
+-- A job that isn't over: where it stands in the table, whose it is, how it stands, whether a wake met it since its last
+-- take, whether it was cancelled, and its value, which the worker has while it runs.
 pub record Job (J : Type 0) : Type 0 where
   pub place : ℕ
+  pub client : ℕ
   pub standing : Standing
   pub woken : Bool
   pub cancelled : Bool
@@ -37,10 +38,10 @@ pub record Job (J : Type 0) : Type 0 where
 abbrev pub job_code : {J : Type 0} → Coded J → Coded (Job J)
 job_code {J} code =
     code_by
-    (ℕ × (Standing × (Bool × (Bool × Option J))))
-    (coded× coded_ℕ (coded× the_row.coded (coded× coded_bool (coded× coded_bool (coded_option code)))))
-    (λ job. (job.place, (job.standing, (job.woken, (job.cancelled, job.value)))))
-    (λ parts. record { place = parts.0; standing = parts.1.0; woken = parts.1.1.0; cancelled = parts.1.1.1.0; value = parts.1.1.1.1 })
+    (ℕ × (ℕ × (Standing × (Bool × (Bool × Option J)))))
+    (coded× coded_ℕ (coded× coded_ℕ (coded× the_row.coded (coded× coded_bool (coded× coded_bool (coded_option code))))))
+    (λ job. (job.place, (job.client, (job.standing, (job.woken, (job.cancelled, job.value))))))
+    (λ parts. record { place = parts.0; client = parts.1.0; standing = parts.1.1.0; woken = parts.1.1.1.0; cancelled = parts.1.1.1.1.0; value = parts.1.1.1.1.1 })
     (λ _. refl)
 
 -- the jobs that aren't over, by their serials
@@ -53,10 +54,15 @@ jobs_code code = map.code coded_ℕ (job_code code)
 abbrev pub one_if : Bool → ℕ
 one_if b = if b then 1 else 0
 
+-- how many of the serials below this one pass a test
+abbrev pub count_below : (ℕ → Bool) → ℕ → ℕ
+count_below passes zero = 0
+count_below passes (suc serial) = count_below passes serial + one_if (passes serial)
+
 module _ {J : Type 0} where
   -- a job that has just been accepted
-  abbrev pub new_job : ℕ → J → Job J
-  new_job place value = record { place = place; standing = Queued; woken = false; cancelled = false; value = Some value }
+  abbrev pub new_job : ℕ → ℕ → J → Job J
+  new_job place client value = record { place = place; client = client; standing = Queued; woken = false; cancelled = false; value = Some value }
 
   -- the job in the hands of a worker
   abbrev pub entry_after_take : Job J → Job J
@@ -68,8 +74,7 @@ module _ {J : Type 0} where
 
   -- how many of the jobs with serials below this one run
   abbrev pub running_below : Jobs J → ℕ → ℕ
-  running_below jobs zero = 0
-  running_below jobs (suc serial) = running_below jobs serial + one_if (is_running_job (get jobs serial))
+  running_below jobs next = count_below (λ serial. is_running_job (get jobs serial)) next
 
   -- each value is there exactly while its job isn't running: then its worker has it
   abbrev pub HaveValues : Jobs J → Type 0

@@ -1,7 +1,7 @@
 -- What the calls of a pool answer.
 use Rattle.std.specs.Prelude.{◌≡◌, ◌<◌, ℕ, Bool, true, false, not, ◌&&◌, ◌||◌, if◌then◌else◌, nat_lt, option_map, List, [], ◌∷◌, length, Option, Some, None, Result, Ok, Err}
 use Rattle.blocking_pool.specs.Jobs.{Job, JobNumber, job_of, standing_of, is_running_as, entry_after_wake, entry_after_cancel}
-use Rattle.blocking_pool.specs.Pools.{Pool, empty_pool, Enters, IsRefused, IsToDrop, TakesFront, EnterAgain, with_job, without_job, after_park, after_return}
+use Rattle.blocking_pool.specs.Pools.{Pool, ready, empty_pool, Enters, IsRefused, IsToDrop, TakesFront, EnterAgain, with_job, without_job, after_park, after_return}
 use Rattle.blocking_pool.specs.Sweeps.{AreAsked, serials_below, swept}
 use Rattle.blocking_pool.specs.Wakes.{wake_of, cancel_of}
 use Rattle.blocking_pool.specs.Counts.{limit_of, after_arrival, after_stop}
@@ -32,20 +32,20 @@ module _ {J : Type 0} where
   pool_of setting serial worker = empty_pool (limit_of_setting (option_map (λ text. text.now) setting)) serial worker
 
   -- a new job is accepted, or comes back
-  abbrev pub Adds : Asking → Pool J → J → Result JobNumber (Refused J) → Pool J → Type 0
-  Adds asking old value (Ok number) new = Enters asking old value number new
-  Adds asking old value (Err refused) new = (refused.back ≡ value) × IsRefused asking old refused.why new
+  abbrev pub Adds : Asking → Pool J → ℕ → J → Result JobNumber (Refused J) → Pool J → Type 0
+  Adds asking old client value (Ok number) new = Enters asking old client value number new
+  Adds asking old client value (Err refused) new = (refused.back ≡ value) × IsRefused asking old client refused.why new
 
   -- a worker arrives, where one was started and hasn't arrived
   abbrev pub Arrives : Pool J → Option WorkerPass → Pool J → Type 0
   Arrives old None new = (old.counts.arriving ≡ 0) × (new ≡ old)
   Arrives old (Some pass) new = (0 < old.counts.arriving) × (new ≡ record old { counts = after_arrival old.counts }) × (new.counts.arriving < new.counts.idle)
 
-  -- a worker takes the front job, to run it or to drop it, or finds none
+  -- a worker takes the first ready job, to run it or to drop it, or finds none
   abbrev pub Takes : (J → Bool → Type 0) → Asking → Pool J → Took J → Pool J → Type 0
   Takes may_mark asking old (Run turn value) new = TakesFront may_mark asking old turn value false new
   Takes may_mark asking old (Drop turn value) new = TakesFront may_mark asking old turn value true new
-  Takes may_mark asking old (Idle pass) new = (old.queue ≡ []) × (new ≡ old) × RefusesNone asking
+  Takes may_mark asking old (Idle pass) new = (ready old ≡ []) × (new ≡ old) × RefusesNone asking
 
   -- what a wake leaves: the job enters again, or is marked as woken
   abbrev pub WakesTo : Asking → Pool J → ℕ → Woke → Pool J → Type 0

@@ -2,7 +2,7 @@
 use Rattle.std.specs.Prelude.{Option, Some, None}
 use Rattle.std.specs.Borrow.{LendsSo, Fml, RattleType, MutBor}
 use Rattle.blocking_pool.specs.Jobs.{JobNumber, entry_with, amend}
-use Rattle.blocking_pool.specs.Tables.{Table, Becomes}
+use Rattle.blocking_pool.specs.Tables.{Table, HasJobs}
 use Rattle.blocking_pool.specs.contracts.pool.table.Table.{the_row}
 
 -- what holds where a value was lent, and what where none was
@@ -14,5 +14,5 @@ IfLent None lent kept = kept
 abbrev pub lends_value : (J : RattleType) → MutBor (Table J.Denot) → JobNumber → Option (MutBor J.Denot) → Fml
 lends_value J table number value =
     LendsSo (the_row J) J table value
-    (λ last left. IfLent value (Becomes table.now last table.now.queue (amend table.now.jobs number.serial (entry_with left))) (Becomes table.now last table.now.queue table.now.jobs))
-    (λ last. Becomes table.now last table.now.queue table.now.jobs)
+    (λ last left. IfLent value (HasJobs table.now last (amend table.now.jobs number.serial (entry_with left))) (HasJobs table.now last table.now.jobs))
+    (λ last. HasJobs table.now last table.now.jobs)

@@ -1,17 +1,22 @@
 //! A pool of jobs and of the workers that run them, as a value: no thread and no lock.
 //!
 //! docs/RULES.md states the rules that the calls follow, under the names that are cited here.
-ghost use Rattle.std.specs.Prelude.{◌≡◌, ◌<◌, ◌≤◌, ◌∷◌, [], ℕ, Bool, true, length, Some};
+ghost use Rattle.std.specs.Prelude.{◌≡◌, ◌<◌, ◌≤◌, ◌∷◌, [], ℕ, Bool, true, length, Some, IfSome};
 ghost use Rattle.blocking_pool.specs.Growth.{greatest};
 ghost use Rattle.blocking_pool.specs.Starters.{asked, IsSteady};
+ghost use Rattle.blocking_pool.specs.Pools.{ring_of_client_limit};
 
 mod answer;
 mod batch;
 mod bell;
 mod chain;
+mod clients;
 mod counts;
+mod heads;
 mod job;
 mod number;
+mod queue;
+pub mod ready;
 mod standing;
 mod starter;
 mod table;
@@ -32,6 +37,13 @@ use std::marker::Model;
 pub use token::{Turn, WakeNote, WorkerPass};
 
 /// A pool: the queue of its jobs, a table of the jobs that aren't over, and the counts of its workers.
+///
+/// Each job is a client's: whoever adds jobs by [`Pool::add_for`] names a client by a number of their own choice, and jobs
+/// that are added by [`Pool::add`] are client 0's. Where a client limit is set, by [`Pool::set_client_limit`], no client
+/// has more jobs taken at a time than the limit says, so that one client with many jobs leaves workers to the others.
+/// A job is *ready* where it is queued and its client has room: fewer of the client's jobs run than the limit. Where no
+/// client limit is set, each queued job is ready. A job that was taken counts as running until its turn ends, also one
+/// that was handed out to be dropped.
 #[derive(Drop)]
 pub struct Pool<J: Job> {
     table: Table<J>,
@@ -43,18 +55,13 @@ pub struct Pool<J: Job> {
 
 impl<J: Job> Model for Pool<J> {
     ghost use Rattle.blocking_pool.specs.Pools.{Pool as Seen, pool_code};
-    ghost use Rattle.blocking_pool.specs.Tables.{IsWhole};
+    ghost use Rattle.blocking_pool.specs.Tables.{pool_over, IsWhole};
 
     ghost Value = { Seen J };
 
     ghost coded = { pool_code J.code };
 
-    ghost view = { λ p. record {
-      queue = p.table.queue;
-      jobs = p.table.jobs;
-      counts = p.counts;
-      next_serial = p.next_serial;
-    } };
+    ghost view = { λ p. pool_over p.table p.counts p.next_serial };
 
     ghost invariant = { λ p. IsWhole p.table p.counts p.next_serial p.due.room };
 }
@@ -62,7 +69,7 @@ impl<J: Job> Model for Pool<J> {
 impl<J: Job> Pool<J> {
     ghost use Rattle.blocking_pool.specs.Pools.{IsSound};
     ghost use Rattle.blocking_pool.specs.PoolAnswers.{pool_of, Adds, Arrives, Takes, Wakes, Cancels, Sweeps, Waits, StaysOrStops, Ends};
-    ghost use Rattle.blocking_pool.specs.Pools.{EnterAgain};
+    ghost use Rattle.blocking_pool.specs.Pools.{EnterAgain, ready, SetsClientLimit};
     ghost use Rattle.blocking_pool.specs.Jobs.{job_of, standing_of, is_running_as, value_at, HaveValues};
     ghost use Rattle.blocking_pool.specs.PoolLends.{lends_job};
     ghost use Rattle.std.specs.Borrow.{sem};
@@ -94,30 +101,45 @@ impl<J: Job> Pool<J> {
         }
     }
 
-    /// Adds a job at the queue's end, and lets the pool grow.
+    /// Adds a job of client 0, as [`Pool::add_for`] does.
+    pub fn add<S: Starter>(&mut self, job: J, starter: &mut S) -> Result<JobNo, Refused<J>>
+        ensures answer { Adds (asked S.Starter starter.old starter.new)
+            self.old 0 job result self.new }
+        ensures steady { IsSteady S.Starter starter.old starter.new }
+    {
+        self.add_for(0, job, starter)
+    }
+
+    /// Adds a job of this client at the queue's end, and lets the pool grow by the jobs that are ready, and by the new one
+    /// where its client has room. A client is known while it has jobs that aren't over, and needs nothing before and after.
     ///
     /// A refused job is handed back, and the queue, the jobs and the next serial are then as before: `Numbers` where the
     /// serials are used up, `Memory` where there was no room for one more job, `NoWorker` where no worker is there after
-    /// the growth. This is the one call of the pool that takes memory.
-    pub fn add<S: Starter>(&mut self, job: J, starter: &mut S) -> Result<JobNo, Refused<J>>
+    /// the growth. Only a call that adds a job takes memory.
+    pub fn add_for<S: Starter>(
+        &mut self,
+        client: u32,
+        job: J,
+        starter: &mut S,
+    ) -> Result<JobNo, Refused<J>>
         ensures answer { Adds (asked S.Starter starter.old starter.new)
-            self.old job result self.new }
+            self.old client job result self.new }
         ensures steady { IsSteady S.Starter starter.old starter.new }
     {
         if self.next_serial == u64::MAX {
             return refuse(job, Refusal::Numbers);
         }
-        if self.table.reserve(&mut self.due).is_err() {
+        if self.table.reserve(&mut self.due, client).is_err() {
             return refuse(job, Refusal::Memory);
         }
-        self.counts.grow(self.table.queue_len() + 1, starter);
+        self.counts.grow(self.table.ready_with(client), starter);
         if self.counts.workers() == 0 {
             return refuse(job, Refusal::NoWorker);
         }
         let serial = self.next_serial;
         self.next_serial += 1;
         self.counts.ring_one();
-        Ok(self.table.insert(serial, job))
+        Ok(self.table.insert(serial, client, job))
     }
 
     /// A started worker arrives, and gets its pass; None where every started worker has arrived.
@@ -131,14 +153,18 @@ impl<J: Job> Pool<J> {
         Some(WorkerPass::new())
     }
 
-    /// A worker takes the front job, and the pool grows by what is left in the queue; or no job is queued. A job that was
-    /// cancelled, or that bears a mark, is handed out to be dropped, and counts as running until its turn ends.
+    /// A worker takes the first ready job, and the pool grows by those that are ready then; or no job is ready. A job that
+    /// was cancelled, or that bears a mark, is handed out to be dropped, and counts as one of its client's that run until
+    /// its turn ends. A queued job of a client without room, cancelled or marked as it may be, isn't taken until one of the
+    /// client's jobs that run has ended.
     pub fn take<S: Starter>(&mut self, pass: WorkerPass, starter: &mut S) -> Took<J>
         requires { self.old.counts.arriving < self.old.counts.idle }
         ensures answer { Takes J.may_answer (asked S.Starter starter.old starter.new)
             self.old result self.new }
         ensures steady { IsSteady S.Starter starter.old starter.new }
     {
+        // Fewer jobs run than there are workers, so one more can be counted.
+        let _workers = self.counts.workers();
         let Some(front) = self.table.take_first() else {
             return Took::Idle(pass);
         };
@@ -149,7 +175,7 @@ impl<J: Job> Pool<J> {
         } = front;
         pass.spend();
         self.counts.begin_job();
-        let left = self.table.queue_len();
+        let left = self.table.ready_len();
         self.counts.grow(left, starter);
         let marked = value.abandoned();
         if cancelled || marked {
@@ -209,7 +235,7 @@ impl<J: Job> Pool<J> {
         ensures steady { IsSteady S.Starter starter.old starter.new }
     {
         self.table.enter_again(no);
-        self.counts.grow(self.table.queue_len(), starter);
+        self.counts.grow(self.table.ready_len(), starter);
         self.counts.ring_one();
     }
 
@@ -228,7 +254,8 @@ impl<J: Job> Pool<J> {
         if count == 0 {
             return 0;
         }
-        self.counts.grow(after, starter);
+        let ready = self.table.ready_len();
+        self.counts.grow(ready, starter);
         self.counts.ring_one();
         count
     }
@@ -327,6 +354,19 @@ impl<J: Job> Pool<J> {
         self.counts.set_limit(limit);
     }
 
+    /// Sets how many jobs of each client may run at a time, or lets any number run. Where the limit rises, all waiting
+    /// workers are notified, since jobs may be ready that weren't. A lower limit stops no running job: its client has room
+    /// again when so many of its jobs have ended that fewer run than the limit. The pool doesn't grow. This goes through
+    /// the clients that have jobs.
+    pub fn set_client_limit(&mut self, limit: Option<usize>)
+        requires { IfSome limit (λ most. 0 < most) }
+        ensures { SetsClientLimit limit self.old self.new }
+    {
+        let ring = ring_of_client_limit(limit, self.table.client_limit());
+        self.table.set_client_limit(limit);
+        self.counts.ring(ring);
+    }
+
     /// Whom to notify for the calls since this was last asked: the greatest of what they rang.
     pub fn bell(&mut self) -> Bell
         ensures ring { result ≡ self.old.counts.bell }
@@ -368,11 +408,39 @@ impl<J: Job> Pool<J> {
         self.table.queue_len()
     }
 
+    /// How many jobs are ready: queued, and their client has room.
+    pub fn ready_len(&self) -> usize
+        ensures value { result ≡ length (ready self.now) }
+        ensures sound { IsSound self.now }
+    {
+        self.table.ready_len()
+    }
+
+    /// How many jobs of each client may run at a time; None where any number may.
+    pub fn client_limit(&self) -> Option<usize>
+        ensures { result ≡ self.now.client_limit }
+    {
+        self.table.client_limit()
+    }
+
     /// The limit of workers; None before the first growth, unless it was set.
     pub fn limit(&self) -> Option<usize>
         ensures { result ≡ self.now.counts.limit }
     {
         self.counts.limit()
+    }
+}
+
+// Whom a new client limit notifies: all, where another stood and the new one lets more jobs run.
+fn ring_of_client_limit(limit: Option<usize>, earlier: Option<usize>) -> BellKind
+    ensures { result ≡ ring_of_client_limit limit earlier }
+{
+    let Some(earlier) = earlier else {
+        return BellKind::Silent;
+    };
+    match limit {
+        Some(most) if most <= earlier => BellKind::Silent,
+        _ => BellKind::All,
     }
 }
 

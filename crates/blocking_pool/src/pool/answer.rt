@@ -138,11 +138,11 @@ pub enum Woke {
 
 /// What a worker takes.
 pub enum Took<J> {
-    /// The front job, to be run.
+    /// The first ready job, to be run.
     Run(Turn, J),
-    /// The front job, to be dropped: it was cancelled, or bears a mark.
+    /// The first ready job, to be dropped: it was cancelled, or bears a mark.
     Drop(Turn, J),
-    /// No job is queued.
+    /// No job is ready.
     Idle(WorkerPass),
 }
 

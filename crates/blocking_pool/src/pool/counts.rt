@@ -118,6 +118,17 @@ impl Counts {
         }
     }
 
+    /// So many waiting workers are to be notified.
+    pub(crate) fn ring(&mut self, ring: BellKind)
+        ensures { self.new ≡ after_ring ring self.old }
+    {
+        match ring {
+            BellKind::Silent => {}
+            BellKind::One => self.ring_one(),
+            BellKind::All => self.bell = BellKind::All,
+        }
+    }
+
     /// A worker stops. One is notified where a job is queued.
     pub(crate) fn stop(&mut self, is_queued: bool)
         requires { self.old.arriving < self.old.idle }

@@ -1,9 +1,11 @@
 //! The table of the jobs that aren't over, their queue, and those of them that are parked.
-ghost use Rattle.std.specs.Prelude.{◌≡◌, ◌+◌, ◌<◌, ◌≤◌, ◌++◌, ◌∷◌, [], ℕ, true, false, length, OnOk, IsSome, Some, None};
+ghost use Rattle.std.specs.Prelude.{◌≡◌, ◌+◌, ◌<◌, ◌≤◌, ◌++◌, ◌∷◌, [], ℕ, true, false, length, OnOk, IfSome, IsSome, Some, None};
 ghost use Rattle.std.specs.FinMap as map;
 ghost use Rattle.blocking_pool.specs.Batch.{serials_of};
+ghost use Rattle.blocking_pool.specs.Clients.{tally_at, no_jobs, has_room_at, enrolled, stopped};
+ghost use Rattle.blocking_pool.specs.Growth.{greatest};
 ghost use Rattle.blocking_pool.specs.Lists.{IsOnce};
-ghost use Rattle.blocking_pool.specs.Jobs.{new_job, job_of, standing_of, is_running_as, amend, entry_after_requeue, jobs_after_requeue, entry_after_park, entry_after_wake, entry_after_cancel, has_value, value_at, HaveValues};
+ghost use Rattle.blocking_pool.specs.Jobs.{one_if, new_job, job_of, standing_of, is_running_as, amend, entry_after_requeue, jobs_after_requeue, entry_after_park, entry_after_wake, entry_after_cancel, has_value, value_at, HaveValues};
 ghost use Rattle.blocking_pool.specs.Tables.{HoldsParked, IsAskedAt, GathersAt};
 ghost use Rattle.std.specs.List.{All};
 ghost use Rattle.std.specs.Option.{option_copied_mut};
@@ -13,6 +15,7 @@ use crate::pool::batch::Batch;
 use crate::pool::chain::Chain;
 use crate::pool::job::Job;
 use crate::pool::number::JobNo;
+use crate::pool::queue::Queue;
 use crate::pool::standing::Standing;
 use slab::Slab;
 use std::alloc::{AllocError, Global};
@@ -22,6 +25,7 @@ use std::marker::Model;
 #[derive(Drop)]
 struct Entry<J: Drop> {
     serial: u64,
+    client: u32,
     standing: Standing,
     woken: bool,
     cancelled: bool,
@@ -37,7 +41,7 @@ pub(crate) struct Found {
     pub cancelled: bool,
 }
 
-/// The front job of the queue, as it is taken.
+/// The first ready job, as it is taken.
 #[derive(Drop)]
 pub(crate) struct Front<J: Drop> {
     pub no: JobNo,
@@ -45,12 +49,12 @@ pub(crate) struct Front<J: Drop> {
     pub cancelled: bool,
 }
 
-/// The jobs that aren't over, each at a place of its own. Two rows lead through the places: the queue, and the parked jobs
-/// in the order in which they parked.
+/// The jobs that aren't over, each at a place of its own. Two rows lead through the places: the queue, which knows which of
+/// them are ready, and the parked jobs in the order in which they parked.
 #[derive(Drop)]
 pub(crate) struct Table<J: Drop> {
     entries: Slab<Entry<J>>,
-    queue: Chain,
+    queue: Queue,
     parked: Chain,
 }
 
@@ -67,19 +71,21 @@ impl<J: Drop> Model for Table<J> {
 }
 
 impl<J: Drop> Table<J> {
-    ghost use Rattle.blocking_pool.specs.Tables.{TakesFirst, Becomes, found_of};
+    ghost use Rattle.blocking_pool.specs.Tables.{TakesFirst, MakesRoom, Becomes, HasJobs, MayEnter, MayLeave, found_of, ready_of, retallied, client_at, tally_for, is_prepared, left};
     ghost use Rattle.std.specs.Borrow.{sem};
     ghost use Rattle.blocking_pool.specs.TableLends.{lends_value};
 
-    /// No job. Takes no memory.
+    /// No job, and no client limit. Takes no memory.
     pub(crate) fn new(alloc: Global) -> Self
         ensures queue { result.queue ≡ [] }
         ensures jobs { result.jobs ≡ map.empty }
+        ensures tallies { (client : ℕ) → tally_at result.tallies client ≡ no_jobs }
+        ensures limit { result.client_limit ≡ None }
         ensures room { result.room ≡ 0 }
     {
         Table {
             entries: Slab::new(alloc),
-            queue: Chain::new(alloc),
+            queue: Queue::new(alloc),
             parked: Chain::new(alloc),
         }
     }
@@ -92,12 +98,48 @@ impl<J: Drop> Table<J> {
         self.queue.len()
     }
 
-    /// Makes room for one more job, here and where a sweep gathers, so that nothing that may happen to it later takes memory.
-    pub(crate) fn reserve(&mut self, due: &mut Batch) -> Result<(), AllocError>
+    /// How many jobs are ready: queued, and their client has room.
+    pub(crate) fn ready_len(&self) -> usize
+        ensures { result ≡ length (ready_of self.now) }
+    {
+        self.queue.ready_len()
+    }
+
+    /// How many jobs are ready, with one more of this client.
+    pub(crate) fn ready_with(&self, client: u32) -> usize
+        requires { length (ready_of self.now) < greatest }
+        ensures { result ≡ length (ready_of self.now) + one_if (has_room_at self.now.client_limit self.now.tallies client) }
+    {
+        let ready = self.ready_len();
+        if self.queue.has_room(client) {
+            ready + 1
+        } else {
+            ready
+        }
+    }
+
+    /// The client limit, if one is set.
+    pub(crate) fn client_limit(&self) -> Option<usize>
+        ensures { result ≡ self.now.client_limit }
+    {
+        self.queue.limit()
+    }
+
+    /// Sets the client limit, or sets none. Goes through the clients.
+    pub(crate) fn set_client_limit(&mut self, limit: Option<usize>)
+        requires { IfSome limit (λ most. 0 < most) }
+        ensures same { HasJobs self.old (record self.new { client_limit = self.old.client_limit }) self.old.jobs }
+        ensures limit { self.new.client_limit ≡ limit }
+    {
+        self.queue.set_limit(limit);
+    }
+
+    /// Makes room for one more job of this client, here and where a sweep gathers, so that nothing that may happen to it
+    /// later takes memory.
+    pub(crate) fn reserve(&mut self, due: &mut Batch, client: u32) -> Result<(), AllocError>
         requires { self.old.room ≤ due.old.room }
-        ensures queue { self.new.queue ≡ self.old.queue }
-        ensures jobs { self.new.jobs ≡ self.old.jobs }
-        ensures room { OnOk result (self.new.has_room ≡ true) }
+        ensures same { MakesRoom self.old self.new }
+        ensures room { OnOk result (is_prepared self.new client ≡ true) }
         ensures batch { self.new.room ≤ due.new.room }
     {
         self.entries.reserve(1)?;
@@ -105,36 +147,39 @@ impl<J: Drop> Table<J> {
         let count = place.checked_add(1).ok_or(AllocError)?;
         due.make_room(count)?;
         self.queue.make_room(place)?;
-        self.parked.make_room(place)
+        self.parked.make_room(place)?;
+        self.queue.make_seat(client)
     }
 
     /// Enters a new job at the queue's end.
-    pub(crate) fn insert(&mut self, serial: u64, value: J) -> JobNo
-        requires room { self.old.has_room ≡ true }
+    pub(crate) fn insert(&mut self, serial: u64, client: u32, value: J) -> JobNo
+        requires room { is_prepared self.old client ≡ true }
         requires fresh { map.get self.old.jobs serial ≡ None }
+        requires left { (tally_at self.old.tallies client).jobs < greatest }
         ensures serial { result.serial ≡ serial }
-        ensures queue { self.new.queue ≡ self.old.queue ++ serial ∷ [] }
-        ensures jobs { self.new.jobs ≡
-            map.insert self.old.jobs serial (new_job result.place value) }
-        ensures same_room { self.new.room ≡ self.old.room }
+        ensures becomes { Becomes self.old self.new (self.old.queue ++ serial ∷ [])
+            (map.insert self.old.jobs serial (new_job result.place client value))
+            (retallied self.old.tallies client enrolled) }
     {
         let place = self.entries.insert_reserved(Entry {
             serial,
+            client,
             standing: Standing::Queued,
             woken: false,
             cancelled: false,
             value: Some(value),
         });
-        self.queue.push_back(place);
+        self.queue.enroll(client);
+        self.queue.enter(place, client);
         JobNo::new(place, serial)
     }
 
-    /// Takes the front job out of the queue, with its value.
+    /// Takes the first ready job out of the queue, with its value.
     pub(crate) fn take_first(&mut self) -> Option<Front<J>>
+        requires { (client : ℕ) → (tally_at self.old.tallies client).running < greatest }
         ensures { TakesFirst self.old result self.new }
     {
-        let place = self.queue.first()?;
-        self.queue.unlink(place);
+        let place = self.queue.take()?;
         let Some(entry) = self.entries.get_mut(place) else {
             unreachable!()
         };
@@ -187,7 +232,7 @@ impl<J: Drop> Table<J> {
     /// Flags a job as woken.
     pub(crate) fn mark_woken(&mut self, no: JobNo)
         requires { IsSome (job_of self.old.jobs no) }
-        ensures { Becomes self.old self.new self.old.queue (amend self.old.jobs no.serial entry_after_wake) }
+        ensures { HasJobs self.old self.new (amend self.old.jobs no.serial entry_after_wake) }
     {
         let Some(entry) = self.entries.get_mut(no.place()) else {
             unreachable!()
@@ -198,8 +243,7 @@ impl<J: Drop> Table<J> {
     /// Flags a job as cancelled.
     pub(crate) fn mark_cancelled(&mut self, no: JobNo)
         requires { IsSome (job_of self.old.jobs no) }
-        ensures { Becomes self.old self.new self.old.queue
-            (amend self.old.jobs no.serial entry_after_cancel) }
+        ensures { HasJobs self.old self.new (amend self.old.jobs no.serial entry_after_cancel) }
     {
         let Some(entry) = self.entries.get_mut(no.place()) else {
             unreachable!()
@@ -209,9 +253,11 @@ impl<J: Drop> Table<J> {
 
     /// Lets a running job wait for a wake, with its value.
     pub(crate) fn park(&mut self, no: JobNo, value: J)
-        requires { is_running_as self.old.jobs no ≡ true }
+        requires runs { is_running_as self.old.jobs no ≡ true }
+        requires counted { 0 < (tally_for self.old no).running }
         ensures { Becomes self.old self.new self.old.queue
-            (amend self.old.jobs no.serial (entry_after_park value)) }
+            (amend self.old.jobs no.serial (entry_after_park value))
+            (retallied self.old.tallies (client_at self.old no) stopped) }
     {
         let place = no.place();
         self.parked.push_back(place);
@@ -220,6 +266,8 @@ impl<J: Drop> Table<J> {
         };
         entry.standing = Standing::Parked;
         entry.value = Some(value);
+        let client = entry.client;
+        self.queue.stop(client);
     }
 
     // Whether the job of this number has its value here.
@@ -246,32 +294,36 @@ impl<J: Drop> Table<J> {
 
     /// Lets a parked job stand at the queue's end again.
     pub(crate) fn enter_again(&mut self, no: JobNo)
-        requires { standing_of self.old.jobs no ≡ Some Parked }
+        requires { MayEnter self.old no }
         ensures { Becomes self.old self.new (self.old.queue ++ no.serial ∷ [])
-            (amend self.old.jobs no.serial entry_after_requeue) }
+            (amend self.old.jobs no.serial entry_after_requeue) (tally_at self.old.tallies) }
     {
         let place = no.place();
         self.parked.unlink(place);
-        self.queue.push_back(place);
         let Some(entry) = self.entries.get_mut(place) else {
             unreachable!()
         };
         entry.standing = Standing::Queued;
+        let client = entry.client;
+        self.queue.enter(place, client);
     }
 
     /// Lets a running job leave the table.
     pub(crate) fn remove(&mut self, no: JobNo)
-        requires { is_running_as self.old.jobs no ≡ true }
-        ensures queue { self.new.queue ≡ self.old.queue }
-        ensures jobs { self.new.jobs ≡ map.remove self.old.jobs no.serial }
-        ensures same_room { self.new.room ≡ self.old.room }
+        requires { MayLeave self.old no }
+        ensures { Becomes self.old self.new self.old.queue (map.remove self.old.jobs no.serial)
+            (retallied self.old.tallies (client_at self.old no) left) }
     {
-        self.entries.try_remove(no.place());
+        let Some(entry) = self.entries.try_remove(no.place()) else {
+            unreachable!()
+        };
+        self.queue.stop(entry.client);
+        self.queue.discharge(entry.client);
     }
 }
 
 impl<J: Job> Table<J> {
-    ghost use Rattle.blocking_pool.specs.Tables.{Becomes, Gathers, SweepsAll};
+    ghost use Rattle.blocking_pool.specs.Tables.{Becomes, MayEnter, AreCounted, Gathers, SweepsAll};
 
     // Gathers the parked jobs that bear a mark, in the order in which they parked.
     fn gather_due(&self, due: &mut Batch)
@@ -285,9 +337,9 @@ impl<J: Job> Table<J> {
     // Lets parked jobs stand at the queue's end again, in this order.
     fn enter_all(&mut self, due: &[JobNo])
         requires once { IsOnce (serials_of due.now) }
-        requires parked { All (λ no. standing_of self.old.jobs no ≡ Some Parked) due.now }
+        requires parked { All (λ no. MayEnter self.old no) due.now }
         ensures { Becomes self.old self.new (self.old.queue ++ serials_of due.now)
-            (jobs_after_requeue self.old.jobs (serials_of due.now)) }
+            (jobs_after_requeue self.old.jobs (serials_of due.now)) (tally_at self.old.tallies) }
     {
         for no in due {
             self.enter_again(*no);
@@ -296,7 +348,8 @@ impl<J: Job> Table<J> {
 
     /// Puts the parked jobs that bear a mark back at the queue's end, in the order in which they were accepted.
     pub(crate) fn sweep(&mut self, due: &mut Batch)
-        requires { self.old.room ≤ due.old.room }
+        requires room { self.old.room ≤ due.old.room }
+        requires counted { AreCounted self.old }
         ensures swept { SweepsAll J.may_answer self.old self.new }
         ensures kept { due.old.room ≤ due.new.room }
     {

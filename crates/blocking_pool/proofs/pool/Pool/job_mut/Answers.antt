@@ -1,4 +1,5 @@
 use Rattle.std.proofs.Common.{refl, ap, ◌∙◌}
+use Rattle.blocking_pool.specs.Clients.{tally_at}
 use Rattle.blocking_pool.specs.Jobs.{job_of, value_at}
 use Rattle.blocking_pool.proofs.PoolLemmas.{same_whole, lent_whole, lent_pool, pool_as}
 use Rattle.blocking_pool.proofs.pool.Pool.job_mut.Goals as goal
@@ -14,7 +15,7 @@ returns g c = (
   (
     refl,
     λ w. lent_pool c.value_mut.result c.self.inside.table (c.value_mut.follows.lender w) c.self.inside.counts c.self.inside.next_serial c.args.no.serial w c.args.self.now c.self.view_is (c.value_mut.follows.holds w),
-    pool_as c.self.inside.table c.value_mut.follows.lender-at-none c.self.inside.counts c.self.inside.next_serial c.self.inside.table.jobs c.value_mut.follows.holds-at-none ∙ c.self.view_is,
+    pool_as c.self.inside.table c.value_mut.follows.lender-at-none c.self.inside.table.queue c.self.inside.table.jobs (tally_at c.self.inside.table.tallies) c.self.inside.counts c.self.inside.counts c.self.inside.next_serial c.value_mut.follows.holds-at-none refl ∙ c.self.view_is,
   ),
   record { lends = tt; value = c.value_mut.ensures.value ∙ ap (λ pool. value_at (job_of pool.jobs c.args.no)) c.self.view_is },
 )

@@ -1,10 +1,7 @@
-use Rattle.std.specs.FinMap.{empty}
-use Rattle.std.proofs.Common.{[], arith}
-use Rattle.blocking_pool.specs.Counts.{no_workers}
-use Rattle.blocking_pool.proofs.PoolLemmas.{empty_sound, whole_as}
+use Rattle.blocking_pool.proofs.PoolLemmas.{empty_whole}
 use Rattle.blocking_pool.proofs.pool.Pool.with_numbers.Goals as goal
 
 pub invariant_of-result : goal.invariant_of-result
 invariant_of-result g c =
-    whole_as c.new.result [] empty (no_workers c.max_threads.result c.args.worker) c.new-3.result c.args.serial c.new-2.result.room
-    c.new.ensures.queue c.new.ensures.jobs c.new-3.ensures (omega (arith, c.new.ensures.room)) (empty_sound c.max_threads.result c.args.serial c.args.worker)
+    empty_whole c.new.result c.max_threads.result c.args.serial c.args.worker c.new-2.result.room c.new-3.result
+    c.new.ensures.queue c.new.ensures.jobs c.new.ensures.tallies c.new.ensures.limit c.new.ensures.room c.new-3.ensures

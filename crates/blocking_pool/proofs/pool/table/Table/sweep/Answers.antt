@@ -1,6 +1,6 @@
 use Rattle.std.proofs.Common.{sym, subst}
 use Rattle.blocking_pool.specs.Tables.{Gathers}
-use Rattle.blocking_pool.proofs.SweepLemmas.{gathers_moved, sweeps_all}
+use Rattle.blocking_pool.proofs.SweepLemmas.{gathers_moved, may_all, sweeps_all}
 use Rattle.blocking_pool.proofs.pool.table.Table.sweep.Goals as goal
 
 -- what was gathered, in the order of the serials
@@ -13,7 +13,7 @@ pub enter_all-requires-clause-once : goal.enter_all-requires-clause-once
 enter_all-requires-clause-once g c = (sorted g c).once
 
 pub enter_all-requires-clause-parked : goal.enter_all-requires-clause-parked
-enter_all-requires-clause-parked g c = (sorted g c).parked
+enter_all-requires-clause-parked g c = may_all g.J.Job.may_answer c.args.self.now c.numbers.result.now c.requires.counted (sorted g c)
 
 pub returns-clause-swept : goal.returns-clause-swept
 returns-clause-swept g c =

@@ -1,0 +1,9 @@
+use Rattle.std.proofs.Common.{ap, arith}
+use Rattle.std.specs.FinMap.{len}
+use Rattle.blocking_pool.proofs.ClientLemmas.{len_known}
+use Rattle.blocking_pool.proofs.pool.clients.Clients.len.Goals as goal
+
+pub returns : goal.returns
+returns c =
+    let is = ap (λ v. len v.known) c.self.view_is in
+    omega (arith, is, len_known c.self.inside.named.entries c.self.inside.unnamed c.self.invariant.0 c.self.invariant.1, c.len.ensures.len)

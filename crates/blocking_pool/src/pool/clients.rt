@@ -1,0 +1,141 @@
+//! What is known of the clients that have jobs.
+ghost use Rattle.std.specs.Prelude.{◌≡◌, ◌<◌, ◌||◌, ℕ, true, is_some, nat_lt, OnOk};
+ghost use Rattle.std.specs.FinMap.{get, insert, len};
+ghost use Rattle.blocking_pool.specs.ClientTable.{client_at, stranger, Forgets, AreNamed};
+
+use std::alloc::{AllocError, Global};
+use std::collections::HashMap;
+use std::marker::Model;
+
+/// A line of places, linked one after the other. Where it is empty, its ends mean nothing.
+#[derive(Clone, Copy)]
+pub(crate) struct Line {
+    pub first: usize,
+    pub last: usize,
+    pub len: usize,
+}
+
+/// What is known of a client: its line of queued places, how many of its jobs aren't over, and how many of these run.
+#[derive(Clone, Copy)]
+pub(crate) struct Client {
+    pub line: Line,
+    pub jobs: usize,
+    pub running: usize,
+}
+
+// A client that has no job.
+const STRANGER: Client = Client {
+    line: Line {
+        first: 0,
+        last: 0,
+        len: 0,
+    },
+    jobs: 0,
+    running: 0,
+};
+
+/// The clients that have jobs. Client 0, that of jobs for which none is named, is always known: it takes no memory and no
+/// look-up.
+#[derive(Drop)]
+pub(crate) struct Clients {
+    unnamed: Client,
+    named: HashMap<u32, Client>,
+}
+
+impl Model for Clients {
+    ghost use Rattle.std.specs.Prelude.{◌≡◌, nat_eq, None};
+    ghost use Rattle.std.specs.HashMap as hash;
+    ghost use Rattle.std.specs.FinMap.{insert, from_entries};
+    ghost use Rattle.blocking_pool.specs.ClientTable.{Clients as Seen, clients_code};
+
+    ghost Value = { Seen };
+
+    ghost coded = { clients_code };
+
+    ghost view = { λ c. record {
+      known = insert (from_entries c.named.entries) 0 c.unnamed;
+      spare = hash.spare c.named;
+    } };
+
+    // Client 0 isn't among those that are named, and none of these stands there twice.
+    ghost invariant = { λ c. (hash.get nat_eq c.named 0 ≡ None) × hash.IsUnique nat_eq c.named };
+}
+
+impl Clients {
+    /// Client 0 alone is known. Takes no memory.
+    pub(crate) fn new(alloc: Global) -> Self
+        ensures { (client : ℕ) → client_at result.known client ≡ stranger }
+    {
+        Clients {
+            unnamed: STRANGER,
+            named: HashMap::new(alloc),
+        }
+    }
+
+    /// How many clients are known.
+    pub(crate) fn len(&self) -> usize
+        ensures { result ≡ len self.now.known }
+    {
+        self.named.len() + 1
+    }
+
+    /// Whether the client is known.
+    pub(crate) fn knows(&self, client: u32) -> bool
+        ensures { result ≡ is_some (get self.now.known client) }
+    {
+        client == 0 || self.named.contains_key(&client)
+    }
+
+    /// What is known of a client.
+    pub(crate) fn get(&self, client: u32) -> Client
+        ensures { result ≡ client_at self.now.known client }
+    {
+        if client == 0 {
+            return self.unnamed;
+        }
+        match self.named.get(&client) {
+            Some(state) => *state,
+            None => STRANGER,
+        }
+    }
+
+    /// The clients that are known beside client 0.
+    pub(crate) fn named(&self) -> &HashMap<u32, Client>
+        ensures { AreNamed self.now.known result.now.entries }
+    {
+        &self.named
+    }
+
+    /// Makes room for one more client.
+    pub(crate) fn make_room(&mut self) -> Result<(), AllocError>
+        ensures known { self.new.known ≡ self.old.known }
+        ensures room { OnOk result (0 < self.new.spare) }
+    {
+        self.named.reserve(1)
+    }
+
+    /// Sets what is known of a client.
+    pub(crate) fn set(&mut self, client: u32, state: Client)
+        requires { (is_some (get self.old.known client) || nat_lt 0 self.old.spare) ≡ true }
+        ensures { self.new.known ≡ insert self.old.known client state }
+    {
+        if client == 0 {
+            self.unnamed = state;
+            return;
+        }
+        let Ok(_) = self.named.insert(client, state) else {
+            unreachable!()
+        };
+    }
+
+    /// Forgets a client.
+    pub(crate) fn forget(&mut self, client: u32)
+        ensures { Forgets self.old self.new client }
+    {
+        if client == 0 {
+            self.unnamed = STRANGER;
+            return;
+        }
+        self.named.remove(&client);
+    }
+}
