@@ -1,5 +1,6 @@
 //! The worked rows of the pool.
 mod bench;
+mod clients;
 mod growth;
 mod limits;
 mod marks;

@@ -111,7 +111,7 @@ fn pool_of(alloc: Global, given: Given) -> Pool<Marked> {
     )
 }
 
-// A worker with a pass takes the front job.
+// A worker with a pass takes the first job that is ready.
 fn taken(pool: &mut Pool<Marked>, starter: &mut RefusesAt, pass: WorkerPass) -> (Hand, Shown) {
     if pool.arriving_count() >= pool.idle_count() {
         return (Hand::Free(pass), Shown::Misplaced);
@@ -223,25 +223,28 @@ impl Bench {
 
     fn take_step(&mut self, step: Step) -> Shown {
         match step {
-            Step::Add(number) => self.add(number),
+            Step::Add(number) => self.add(0, number),
+            Step::AddFor(client, number) => self.add(client, number),
             Step::Arrive => self.arrive(),
             Step::Worker(worker, work) => self.work(worker, work),
             Step::Job(job, deed) => self.meet(job, deed),
             Step::Sweep => Shown::Swept(self.pool.sweep(&mut self.starter)),
             Step::SetLimit(limit) => self.set_limit(limit),
+            Step::SetClientLimit(limit) => self.set_client_limit(limit),
             Step::Ask(count) => Shown::Are(self.count(count)),
             Step::Limit => Shown::LimitIs(self.pool.limit()),
+            Step::ClientLimit => Shown::LimitIs(self.pool.client_limit()),
             Step::Ring => self.ring(),
             Step::Switch => self.switch(),
         }
     }
 
-    fn add(&mut self, number: u32) -> Shown {
+    fn add(&mut self, client: u32, number: u32) -> Shown {
         let job = Marked {
             number,
             is_marked: false,
         };
-        match self.pool.add(job, &mut self.starter) {
+        match self.pool.add_for(client, job, &mut self.starter) {
             Ok(no) => match self.known.jobs.push(no) {
                 Ok(()) => Shown::Accepted(no.serial()),
                 Err(_) => Shown::Misplaced,
@@ -328,12 +331,21 @@ impl Bench {
         Shown::NoAnswer
     }
 
+    fn set_client_limit(&mut self, limit: Option<usize>) -> Shown {
+        if let Some(0) = limit {
+            return Shown::Misplaced;
+        }
+        self.pool.set_client_limit(limit);
+        Shown::NoAnswer
+    }
+
     fn count(&self, count: Count) -> usize {
         match count {
             Count::Workers => self.pool.thread_count(),
             Count::Idle => self.pool.idle_count(),
             Count::Arriving => self.pool.arriving_count(),
             Count::Queued => self.pool.queue_len(),
+            Count::Ready => self.pool.ready_len(),
         }
     }
 

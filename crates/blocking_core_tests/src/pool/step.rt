@@ -9,6 +9,8 @@ use blocking_core::pool::{BellKind, Refusal, Woke};
 pub(super) enum Step {
     /// A job that bears this number is added.
     Add(u32),
+    /// A job of a client is added, which bears this number.
+    AddFor(u32, u32),
     /// A worker arrives.
     Arrive,
     /// A worker that arrived does something.
@@ -19,10 +21,14 @@ pub(super) enum Step {
     Sweep,
     /// The limit is set.
     SetLimit(usize),
+    /// The limit of running jobs for each client is set, or let go.
+    SetClientLimit(Option<usize>),
     /// The pool is asked for a count.
     Ask(Count),
     /// The limit is asked for.
     Limit,
+    /// The limit of running jobs for each client is asked for.
+    ClientLimit,
     /// The bell is taken and rung.
     Ring,
     /// From here on all calls go to the other pool.
@@ -32,7 +38,7 @@ pub(super) enum Step {
 /// What a worker does.
 #[derive(Clone, Copy)]
 pub(super) enum Work {
-    /// It takes the front job.
+    /// It takes the first job that is ready.
     Take,
     /// It has waited.
     Wait(Until),
@@ -79,6 +85,7 @@ pub(super) enum Count {
     Idle,
     Arriving,
     Queued,
+    Ready,
 }
 
 /// What a step shows.
@@ -96,7 +103,7 @@ pub(super) enum Shown {
     Runs(u32),
     /// The worker has to drop the job of this number.
     Drops(u32),
-    /// No job is queued.
+    /// No job is ready.
     NoJob,
     /// The worker is free.
     Free,
