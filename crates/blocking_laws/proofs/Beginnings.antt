@@ -23,11 +23,11 @@ use Rattle.blocking_laws.specs.declared.event.Party.TheVariants.{Task}
 -- ---- a job keeps its holder
 
 -- an act that accepts a job accepts the next one
-abbrev AcceptsNext : List ℕ → Act → Type 0
+abbrev pub AcceptsNext : List ℕ → Act → Type 0
 AcceptsNext jobs (Accepted t) = t ≡ 1 + length jobs
 AcceptsNext jobs _ = Unit {0}
 
-accepts_next : (setting : ℕ) (past : List Moment) (now : Moment) (act : Act) → PoolAnswers setting past now act → AcceptsNext (accepted_jobs past) act
+pub accepts_next : (setting : ℕ) (past : List Moment) (now : Moment) (act : Act) → PoolAnswers setting past now act → AcceptsNext (accepted_jobs past) act
 accepts_next setting past now (Accepted t) answers = answers.0
 accepts_next setting past now _ answers = tt
 

@@ -1,94 +1,37 @@
--- The order of entry is the takes and then the queue; what is queued and what runs stands so, each job once.
+-- Of each client the order of entry is its takes and then its part of the queue; what is queued and what runs stands so, each job once.
 use Rattle.std.proofs.Common.{◌≡◌, refl, ℕ, ◌+◌, ◌-◌, ◌<◌, ◌==◌, ◌&&◌, ◌||◌, if◌then◌else◌, Bool, true, false, cond, List, [], ◌∷◌, ◌++◌, length, Option, Some, None, ap, ◌∙◌, arith, add-zero, length-append}
-use Rattle.std.specs.Prelude.{filter, not, is_some}
-use Rattle.std.proofs.lemmas.Bool.{eqb-true, eq-eqb, or_from}
+use Rattle.std.specs.Prelude.{filter, is_some, IfSome}
+use Rattle.std.proofs.lemmas.Bool.{eqb-true, eq-eqb}
 use Rattle.std.proofs.lemmas.Bool.Decides.{nat_tests}
 use Rattle.std.proofs.lemmas.List.{append_assoc}
 use Rattle.std.proofs.lemmas.List.Elements.{filter-append}
 use mathlib.Core.Path.{subst, sym}
 use Rattle.blocking_pool.specs.Jobs.{one_if}
-use Rattle.blocking_pool.specs.Lists.{is_in, without}
+use Rattle.blocking_pool.specs.Lists.{is_in, without, first_of}
 use Rattle.blocking_pool.specs.Wakes.{wake_of, cancel_of}
-use Rattle.blocking_pool.proofs.Lists.{turned, without-first}
+use Rattle.blocking_pool.proofs.Lists.{turned, filter_same}
 use Rattle.blocking_pool.specs.declared.pool.answer.Woke.TheVariants.{Entered}
 use Rattle.blocking_pool.specs.declared.pool.standing.Standing.{Standing}
 use Rattle.blocking_pool.specs.declared.pool.standing.Standing.TheVariants.{Queued, Running, Parked, Done, Dropped}
+use Rattle.blocking_laws.specs.Core.{is_below}
 use Rattle.blocking_laws.specs.Seen.{EachMayFollow, without_all, joined, is_worker}
-use Rattle.blocking_laws.specs.Jobs.{accepted_by, accepted_jobs, standing, stands_by, sweeps, is_queued, is_running, is_parked, is_marked, is_to_drop, is_woken}
-use Rattle.blocking_laws.specs.Queue.{to_sweep, entered_by, taken_by, ended_by, entries, takes, queue, running, times, InOrder}
+use Rattle.blocking_laws.specs.Jobs.{accepts, accepted_by, accepted_jobs, client_of_step, client, standing, stands_by, sweeps, is_queued, is_running, is_parked, is_marked, is_to_drop, is_woken}
+use Rattle.blocking_laws.specs.Queue.{to_sweep, entered_by, taken_by, ended_by, entries, takes, queue, running, client_limit_by, client_limit, NeverLimited, of_client, has_room, ready, times, InOrder}
 use Rattle.blocking_laws.specs.Turns.{Turn, GoesOn, IsWaiting, MustGiveUp, HasGivenUp, turn, hand, hand_by, hand_of, HoldsOne}
 use Rattle.blocking_laws.specs.Answers.{PoolAnswers, AnswerLaw, take_answer, take_from, end_of}
-use Rattle.blocking_laws.specs.Steps.{job_taken}
+use Rattle.blocking_laws.specs.Steps.{job_taken, is_take}
 use Rattle.blocking_laws.specs.Legal.{PoolLaw}
 use Rattle.blocking_laws.specs.declared.event.Act.{Act}
-use Rattle.blocking_laws.specs.declared.event.Act.TheVariants.{Accepted, JobWoken, JobCancelled, Swept, Took, TookDropped, Stays, Stopped, Ended}
+use Rattle.blocking_laws.specs.declared.event.Act.TheVariants.{Accepted, JobWoken, JobCancelled, Swept, Took, TookDropped, TookNone, Stays, Stopped, Ended}
 use Rattle.blocking_laws.specs.declared.event.Event.{Event}
 use Rattle.blocking_laws.specs.declared.event.Moment.{Moment}
 use Rattle.blocking_laws.specs.declared.event.Party.{Party}
 use Rattle.blocking_laws.specs.declared.event.Party.TheVariants.{Worker}
 use Rattle.blocking_laws.specs.declared.event.WaitEnd.TheVariants.{Woken, TimedOut}
-
--- ---- how often a number stands in a list
-
-pub same_self : (n : ℕ) → (n == n) ≡ true
-same_self n = grind (arith, nat_tests)
-
-pub times_both : (s : ℕ) (xs ys : List ℕ) → times s (xs ++ ys) ≡ times s xs + times s ys
-times_both s xs ys = ap length (filter-append (λ m. m == s) xs ys) ∙ length-append (filter (λ m. m == s) xs) (filter (λ m. m == s) ys)
-
-more_if : (b : Bool) (n : ℕ) (ns : List ℕ) → length (cond b (n ∷ ns) ns) ≡ one_if b + length ns
-more_if true n ns = omega arith
-more_if false n ns = omega arith
-
-times_more : (s n : ℕ) (ns : List ℕ) → times s (n ∷ ns) ≡ one_if (n == s) + times s ns
-times_more s n ns = more_if (n == s) n (filter (λ m. m == s) ns)
-
-pub times_one : (s n : ℕ) → times s (n ∷ []) ≡ one_if (n == s)
-times_one s n = times_more s n [] ∙ add-zero (one_if (n == s))
-
-times_joined : (s : ℕ) (xs ys : List ℕ) → times s (joined xs ys) ≡ times s xs + times s ys
-times_joined s xs [] = sym (add-zero (times s xs))
-times_joined s xs (y ∷ ys) = times_both s xs (y ∷ ys)
-
-kept_if : (c : Bool) (s n : ℕ) (ns : List ℕ) → times s (cond c (n ∷ ns) ns) ≡ (if c then one_if (n == s) + times s ns else times s ns)
-kept_if true s n ns = times_more s n ns
-kept_if false s n ns = refl
-
-kept_count : (b c d : Bool) (n m : ℕ) → (d ≡ true → c ≡ b) → n ≡ (if b then m else 0) → (if c then one_if d + n else n) ≡ (if b then one_if d + m else 0)
-kept_count true true d n m same e = ap (λ k. one_if d + k) e
-kept_count true false true n m same e = let bad : false ≡ true = same refl in absurd cc
-kept_count true false false n m same e = omega (arith, e)
-kept_count false true true n m same e = let bad : true ≡ false = same refl in absurd cc
-kept_count false true false n m same e = omega (arith, e)
-kept_count false false d n m same e = e
-
-none_either : (b : Bool) (n : ℕ) → n ≡ 0 → n ≡ (if b then n else 0)
-none_either true n e = refl
-none_either false n e = e
-
--- what a test keeps stands there as often as before
-times_kept : (keep : ℕ → Bool) (s : ℕ) (ns : List ℕ) → times s (filter keep ns) ≡ (if keep s then times s ns else 0)
-times_kept keep s [] = none_either (keep s) (times s []) refl
-times_kept keep s (n ∷ ns) =
-    kept_if (keep n) s n (filter keep ns)
-    ∙ kept_count (keep s) (keep n) (n == s) (times s (filter keep ns)) (times s ns) (λ e. ap keep (eqb-true n s e)) (times_kept keep s ns)
-    ∙ ap (λ (k : ℕ). if keep s then k else 0) (sym (times_more s n ns))
-
-left_by : (b c : Bool) (n : ℕ) → (if c then 0 else (if not b then n else 0)) ≡ (if b || c then 0 else n)
-left_by true true n = refl
-left_by true false n = refl
-left_by false true n = refl
-left_by false false n = refl
-
-times_left : (s : ℕ) (gone ns : List ℕ) → times s (without_all gone ns) ≡ (if is_in s gone then 0 else times s ns)
-times_left s [] ns = refl
-times_left s (g ∷ gone) ns =
-    times_left s gone (without g ns)
-    ∙ ap (λ (k : ℕ). if is_in s gone then 0 else k) (times_kept (λ n. not (g == n)) s ns ∙ ap (λ (b : Bool). if not b then times s ns else 0) (turned g s))
-    ∙ left_by (s == g) (is_in s gone) (times s ns)
-
-times_after : (s : ℕ) (gone new ns : List ℕ) → times s (joined (without_all gone ns) new) ≡ (if is_in s gone then 0 else times s ns) + times s new
-times_after s gone new ns = times_joined s (without_all gone ns) new ∙ ap (λ (k : ℕ). k + times s new) (times_left s gone ns)
+use Rattle.blocking_laws.proofs.Beginnings.{AcceptsNext, accepts_next}
+use Rattle.blocking_laws.proofs.Clients.{part, part_joined, part_same, times_part, first_leaves, without_head, all_kept}
+pub use Rattle.blocking_laws.proofs.Times.{same_self, times_both, times_one}
+use Rattle.blocking_laws.proofs.Times.{times_joined, times_kept, times_after, counts_in, first_counts, length_left, length_joined}
 
 -- ---- a job before and after an act
 
@@ -201,7 +144,7 @@ running_after _ s st mark n meets e = add-zero n ∙ e
 
 -- ---- what was accepted
 
-abbrev is_known : Option Standing → Bool
+abbrev pub is_known : Option Standing → Bool
 is_known st = is_some st
 
 accepted_after : (act : Act) (s : ℕ) (st : Option Standing) (mark : Bool) (n : ℕ) → Meets act s st → n ≡ one_if (is_known st)
@@ -220,9 +163,13 @@ accepted_after (Stays w Woken) s st mark n meets e = add-zero n ∙ e
 accepted_after (Stopped w Woken) s st mark n meets e = add-zero n ∙ e
 accepted_after _ s st mark n meets e = add-zero n ∙ e
 
+-- no serial beyond the number of these jobs stands in the other list
+abbrev pub NoneBeyondOf : List ℕ → List ℕ → Type 0
+NoneBeyondOf jobs others = (s : ℕ) → length jobs < s → times s others ≡ 0
+
 -- no serial beyond the number of jobs was accepted
-abbrev NoneBeyond : List ℕ → Type 0
-NoneBeyond jobs = (s : ℕ) → length jobs < s → times s jobs ≡ 0
+abbrev pub NoneBeyond : List ℕ → Type 0
+NoneBeyond jobs = NoneBeyondOf jobs jobs
 
 beyond_by : (b : Bool) (t s : ℕ) (jobs : List ℕ) → (t == s) ≡ b → t ≡ 1 + length jobs → 1 + length jobs < s → times s jobs ≡ 0 → times s jobs + one_if b ≡ 0
 beyond_by true t s jobs e next over none = let is = eqb-true t s e in absurd (omega (arith, is, next, over))
@@ -243,9 +190,9 @@ beyond_after setting past now _ answers none = none
 -- ---- whose turn it is
 
 -- what is known of the hands: what they hold runs, and no two hold one job
-record Hands (past : List Moment) : Type 0 where
-  held : (w s : ℕ) → hand past w ≡ Some s → standing past s ≡ Some Running
-  alone : (v w s : ℕ) → hand past v ≡ Some s → hand past w ≡ Some s → v ≡ w
+pub record Hands (past : List Moment) : Type 0 where
+  pub held : (w s : ℕ) → hand past w ≡ Some s → standing past s ≡ Some Running
+  pub alone : (v w s : ℕ) → hand past v ≡ Some s → hand past w ≡ Some s → v ≡ w
 
 -- a job that runs isn't one that the act meets elsewhere
 runs_on : (b : Bool) (st met new : Option Standing) → (b ≡ true → st ≡ met) → is_running met ≡ false → st ≡ Some Running → (if b then new else st) ≡ Some Running
@@ -329,14 +276,17 @@ alone_after past event _ v w s hands meets e f = hands.alone v w s e f
 
 -- ---- what the laws say of the job that an act names
 
--- what is known of a past
-record Sound (past : List Moment) : Type 0 where
-  accepted : (s : ℕ) → times s (accepted_jobs past) ≡ one_if (is_known (standing past s))
-  beyond : NoneBeyond (accepted_jobs past)
-  queued : (s : ℕ) → times s (queue past) ≡ one_if (is_queued (standing past s))
-  runs : (s : ℕ) → times s (running past) ≡ one_if (is_running (standing past s))
-  hands : Hands past
-  entered : entries past ≡ takes past ++ queue past
+-- What is known of a past that keeps the pool's law: which jobs were accepted, are queued and run, each once; what the hands hold; that no
+-- other job ever entered; and of each client, that its entries are its takes and then its part of the queue.
+pub record Sound (past : List Moment) : Type 0 where
+  pub accepted : (s : ℕ) → times s (accepted_jobs past) ≡ one_if (is_known (standing past s))
+  pub beyond : NoneBeyond (accepted_jobs past)
+  pub queued : (s : ℕ) → times s (queue past) ≡ one_if (is_queued (standing past s))
+  pub runs : (s : ℕ) → times s (running past) ≡ one_if (is_running (standing past s))
+  pub hands : Hands past
+  pub within : NoneBeyondOf (accepted_jobs past) (entries past)
+  pub counted : length (entries past) ≡ length (takes past) + length (queue past)
+  pub entered : (c : ℕ) → of_client past c (entries past) ≡ of_client past c (takes past) ++ of_client past c (queue past)
 
 unknown_is : (st : Option Standing) → one_if (is_known st) ≡ 0 → st ≡ None
 unknown_is None e = refl
@@ -358,35 +308,35 @@ taken_if : (b : Bool) (n : ℕ) → job_taken (if b then TookDropped n else Took
 taken_if true n = refl
 taken_if false n = refl
 
--- the list begins with this number
-record BeginsWith (s : ℕ) (ns : List ℕ) : Type 0 where
-  rest : List ℕ
-  is : ns ≡ s ∷ rest
+first_taken : (past : List Moment) (s : ℕ) (ns : List ℕ) → Some s ≡ job_taken (take_from past ns) → first_of ns ≡ Some s
+first_taken past s [] e = absurd cc
+first_taken past s (n ∷ ns) e = sym (e ∙ taken_if (is_to_drop past n) n)
 
-front_of : (past : List Moment) (s : ℕ) (ns : List ℕ) → Some s ≡ job_taken (take_from past ns) → BeginsWith s ns
-front_of past s [] e = absurd cc
-front_of past s (n ∷ ns) e =
-    let both : Some s ≡ Some n = e ∙ taken_if (is_to_drop past n) n in
-    let same : s ≡ n = cc both in
-    record { rest = ns; is = ap (λ (m : ℕ). m ∷ ns) (sym same) }
+-- the job that a take gives is the first that is ready, it is queued, and it stands once in the queue
+pub record IsTaken (past : List Moment) (s : ℕ) : Type 0 where
+  pub first : first_of (ready past) ≡ Some s
+  pub stands : standing past s ≡ Some Queued
+  pub once : times s (queue past) ≡ 1
 
--- the front job is queued, and stands nowhere else in the queue
-record IsFront (past : List Moment) (s : ℕ) : Type 0 where
-  rest : List ℕ
-  is : queue past ≡ s ∷ rest
-  stands : standing past s ≡ Some Queued
-  once : times s rest ≡ 0
+-- what stands in the queue is queued
+queued_once : (st : Option Standing) (n : ℕ) → 0 < n → n ≡ one_if (is_queued st) → (st ≡ Some Queued) × (n ≡ 1)
+queued_once (Some Queued) n some e = (refl, e)
+queued_once _ n some e = absurd (omega (arith, some, e))
 
-once_in : (st : Option Standing) (n : ℕ) → 1 + n ≡ one_if (is_queued st) → n ≡ 0
-once_in (Some Queued) n e = omega (arith, e)
-once_in _ n e = absurd (omega (arith, e))
+some_kept : (b : Bool) (n : ℕ) → 0 < (if b then n else 0) → 0 < n
+some_kept true n some = some
+some_kept false n some = absurd (omega (arith, some))
 
-front_is : (past : List Moment) (s : ℕ) → Sound past → Some s ≡ job_taken (take_answer past) → IsFront past s
-front_is past s sound e =
-    let front = front_of past s (queue past) e in
-    let count : 1 + times s front.rest ≡ one_if (is_queued (standing past s)) =
-    ap (λ (b : Bool). one_if b + times s front.rest) (sym (eq-eqb s s refl)) ∙ sym (times_more s s front.rest) ∙ ap (times s) (sym front.is) ∙ sound.queued s in
-    record { rest = front.rest; is = front.is; stands = queued_is (standing past s) (times s front.rest) count; once = once_in (standing past s) (times s front.rest) count }
+taken_is : (past : List Moment) (s : ℕ) → Sound past → first_of (ready past) ≡ Some s → IsTaken past s
+taken_is past s sound first =
+    let there : 0 < times s (ready past) = first_counts s (ready past) first in
+    let kept : 0 < (if has_room past (client past s) then times s (queue past) else 0) =
+    subst (λ (n : ℕ). 0 < n) (times_kept (λ t. has_room past (client past t)) s (queue past)) there in
+    let both = queued_once (standing past s) (times s (queue past)) (some_kept (has_room past (client past s)) (times s (queue past)) kept) (sound.queued s) in
+    record { first = first; stands = both.0; once = both.1 }
+
+taken_so : (past : List Moment) (s : ℕ) → Sound past → Some s ≡ job_taken (take_answer past) → IsTaken past s
+taken_so past s sound e = taken_is past s sound (first_taken past s (ready past) e)
 
 stands_at : (past : List Moment) (st : Option Standing) (t s : ℕ) → (t == s) ≡ true → standing past t ≡ st → standing past s ≡ st
 stands_at past st t s same e = subst (λ (u : ℕ). standing past u ≡ st) (eqb-true t s same) e
@@ -417,8 +367,8 @@ meets : (setting : ℕ) (past : List Moment) (now : Moment) (act : Act) (s : ℕ
 meets setting past now (Accepted t) s sound answers one = new_is past t s sound answers.0
 meets setting past now (JobWoken t Entered) s sound answers one = λ same. stands_at past (Some Parked) t s same (woken_is (standing past t) answers)
 meets setting past now (JobCancelled t Entered) s sound answers one = λ same. stands_at past (Some Parked) t s same (cancelled_is (standing past t) answers)
-meets setting past now (Took t) s sound answers one = λ same. stands_at past (Some Queued) t s same (front_is past t sound (ap job_taken answers)).stands
-meets setting past now (TookDropped t) s sound answers one = λ same. stands_at past (Some Queued) t s same (front_is past t sound (ap job_taken answers)).stands
+meets setting past now (Took t) s sound answers one = λ same. stands_at past (Some Queued) t s same (taken_so past t sound (ap job_taken answers)).stands
+meets setting past now (TookDropped t) s sound answers one = λ same. stands_at past (Some Queued) t s same (taken_so past t sound (ap job_taken answers)).stands
 meets setting past now (Ended t how) s sound answers one = (
   λ same. stands_at past (Some Running) t s same (in_hand past now.event.party t sound one),
   ap (λ (a : Act). is_running (ended_how a)) answers ∙ never_running (turn past t) (is_to_drop past t) (is_woken past t) t,
@@ -427,78 +377,171 @@ meets setting past now _ s sound answers one = tt
 
 -- ---- what entered and wasn't taken
 
-differs : (b : Bool) (n t m : ℕ) → (n == t) ≡ b → one_if b + m ≡ 0 → (t == n) ≡ false
-differs true n t m e none = absurd (omega (arith, none))
-differs false n t m e none = grind (arith, nat_tests)
+-- how many entered, where one is taken
+took_one : (past : List Moment) (t : ℕ) → IsTaken past t → length (entries past) ≡ length (takes past) + length (queue past)
+    → length (entries past) ≡ length (takes past ++ t ∷ []) + length (without t (queue past))
+took_one past t taken count =
+    let left = length_left t (queue past) in
+    let long = length-append (takes past) (t ∷ []) in
+    let once = taken.once in
+    omega (arith, count, left, long, once)
 
-rest_none : (b : Bool) (m : ℕ) → one_if b + m ≡ 0 → m ≡ 0
-rest_none true m e = omega (arith, e)
-rest_none false m e = omega (arith, e)
+entered_more : (before taken line new : List ℕ) → length before ≡ length taken + length line → length (joined before new) ≡ length taken + length (joined line new)
+entered_more before taken line new count =
+    let one = length_joined before new in
+    let two = length_joined line new in
+    omega (arith, count, one, two)
 
--- a number that stands nowhere in a list isn't in it
-not_in : (t : ℕ) (ns : List ℕ) → times t ns ≡ 0 → is_in t ns ≡ false
-not_in t [] none = refl
-not_in t (n ∷ ns) none =
-    let count : one_if (n == t) + times t ns ≡ 0 = sym (times_more t n ns) ∙ none in
-    or_from (t == n) (is_in t ns) (differs (n == t) n t (times t ns) refl count) (not_in t ns (rest_none (n == t) (times t ns) count))
+counted_after : (setting : ℕ) (past : List Moment) (now : Moment) (act : Act) → Sound past → PoolAnswers setting past now act
+    → length (joined (entries past) (entered_by past act)) ≡ length (joined (takes past) (taken_by act)) + length (joined (without_all (taken_by act) (queue past)) (entered_by past act))
+counted_after setting past now (Took t) sound answers = took_one past t (taken_so past t sound (ap job_taken answers)) sound.counted
+counted_after setting past now (TookDropped t) sound answers = took_one past t (taken_so past t sound (ap job_taken answers)) sound.counted
+counted_after setting past now act sound answers = entered_more (entries past) (takes past) (queue past) (entered_by past act) sound.counted
 
-took_front : (past : List Moment) (t : ℕ) → IsFront past t → entries past ≡ takes past ++ queue past → entries past ≡ (takes past ++ t ∷ []) ++ without t (queue past)
-took_front past t front e =
-    e ∙ ap (λ (ns : List ℕ). takes past ++ ns) front.is ∙ sym (append_assoc (takes past) (t ∷ []) front.rest)
-    ∙ ap (λ (ns : List ℕ). (takes past ++ t ∷ []) ++ ns) (sym (ap (without t) front.is ∙ without-first t front.rest (not_in t front.rest front.once)))
+-- a job that stands nowhere isn't among what enters
+within_after : (line before new : List ℕ) (s : ℕ) (st : Option Standing) → times s before ≡ 0 → st ≡ None → times s (joined line new) ≡ one_if (is_queued st)
+    → times s (joined before new) ≡ 0
+within_after line before new s st none unknown queued =
+    let here = times_joined s line new in
+    let there = times_joined s before new in
+    let nowhere : one_if (is_queued st) ≡ 0 = ap (λ (o : Option Standing). one_if (is_queued o)) unknown in
+    omega (arith, here, there, none, queued, nowhere)
 
-enters_last : (before taken line new : List ℕ) → before ≡ taken ++ line → joined before new ≡ taken ++ joined line new
-enters_last before taken line [] e = e
-enters_last before taken line (n ∷ new) e = ap (λ (ns : List ℕ). ns ++ n ∷ new) e ∙ append_assoc taken line (n ∷ new)
+fewer_before : (jobs new : List ℕ) (s : ℕ) → length (joined jobs new) < s → length jobs < s
+fewer_before jobs new s over = let long = length_joined jobs new in omega (arith, long, over)
 
-entered_after : (setting : ℕ) (past : List Moment) (now : Moment) (act : Act) → Sound past → PoolAnswers setting past now act
-    → joined (entries past) (entered_by past act) ≡ joined (takes past) (taken_by act) ++ joined (without_all (taken_by act) (queue past)) (entered_by past act)
-entered_after setting past now (Took t) sound answers = took_front past t (front_is past t sound (ap job_taken answers)) sound.entered
-entered_after setting past now (TookDropped t) sound answers = took_front past t (front_is past t sound (ap job_taken answers)) sound.entered
-entered_after setting past now act sound answers = enters_last (entries past) (takes past) (queue past) (entered_by past act) sound.entered
+-- the clients after an act, which may bring a job of a new one
+abbrev pub client_by : Act → ℕ → (ℕ → ℕ) → ℕ → ℕ
+client_by act new client s = if accepts s act then new else client s
+
+-- a job that was accepted keeps its client
+keeps_client : (past : List Moment) (act : Act) (new : ℕ) (jobs : List ℕ) → AcceptsNext (accepted_jobs past) act → NoneBeyondOf (accepted_jobs past) jobs
+    → (s : ℕ) → is_in s jobs ≡ true → client_by act new (client past) s ≡ client past s
+keeps_client past (Accepted t) new jobs next within s found = by (t == s) refl
+  where
+    by : (b : Bool) → (t == s) ≡ b → (if b then new else client past s) ≡ client past s
+    by true same = let is : t ≡ s = eqb-true t s same in absurd (counts_in s jobs found (within s (omega (arith, is, next))))
+    by false same = refl
+keeps_client past _ new jobs next within s found = refl
+
+-- each job entered as often as it was taken and is queued
+parts_count : (past : List Moment) → Sound past → (s : ℕ) → times s (entries past) ≡ times s (takes past) + times s (queue past)
+parts_count past sound s =
+    let all = times_part (client past) s (entries past) in
+    let taken = times_part (client past) s (takes past) in
+    let line = times_part (client past) s (queue past) in
+    let both = ap (times s) (sound.entered (client past s)) ∙ times_both s (of_client past (client past s) (takes past)) (of_client past (client past s) (queue past)) in
+    omega (arith, all, taken, line, both)
+
+takes_within : (past : List Moment) → Sound past → NoneBeyondOf (accepted_jobs past) (takes past)
+takes_within past sound s over = let count = parts_count past sound s in let none = sound.within s over in omega (arith, count, none)
+
+queue_within : (past : List Moment) → Sound past → NoneBeyondOf (accepted_jobs past) (queue past)
+queue_within past sound s over = let count = parts_count past sound s in let none = sound.within s over in omega (arith, count, none)
+
+-- the parts of a client are the same after an act
+same_parts : (setting : ℕ) (past : List Moment) (now : Moment) (act : Act) (new c : ℕ) → Sound past → PoolAnswers setting past now act
+    → part (client_by act new (client past)) c (entries past) ≡ part (client_by act new (client past)) c (takes past) ++ part (client_by act new (client past)) c (queue past)
+same_parts setting past now act new c sound answers =
+    let after = client_by act new (client past) in
+    let next = accepts_next setting past now act answers in
+    part_same after (client past) c (entries past) (keeps_client past act new (entries past) next sound.within)
+    ∙ sound.entered c
+    ∙ ap (λ (ns : List ℕ). ns ++ of_client past c (queue past))
+    (sym (part_same after (client past) c (takes past) (keeps_client past act new (takes past) next (takes_within past sound))))
+    ∙ ap (λ (ns : List ℕ). part after c (takes past) ++ ns)
+    (sym (part_same after (client past) c (queue past) (keeps_client past act new (queue past) next (queue_within past sound))))
+
+took_part : (past : List Moment) (t c : ℕ) → Sound past → IsTaken past t
+    → of_client past c (entries past) ≡ of_client past c (takes past ++ t ∷ []) ++ of_client past c (without t (queue past))
+took_part past t c sound taken =
+    sound.entered c
+    ∙ ap (λ (ns : List ℕ). of_client past c (takes past) ++ ns) (first_leaves (has_room past) (client past) c t (queue past) taken.first taken.once)
+    ∙ sym (append_assoc (of_client past c (takes past)) (of_client past c (t ∷ [])) (of_client past c (without t (queue past))))
+    ∙ ap (λ (ns : List ℕ). ns ++ of_client past c (without t (queue past))) (sym (filter-append (λ s. client past s == c) (takes past) (t ∷ [])))
+
+enters_last : (client : ℕ → ℕ) (c : ℕ) (before taken line new : List ℕ) → part client c before ≡ part client c taken ++ part client c line
+    → part client c (joined before new) ≡ part client c taken ++ part client c (joined line new)
+enters_last client c before taken line new e =
+    part_joined client c before new ∙ ap (λ (ns : List ℕ). ns ++ part client c new) e
+    ∙ append_assoc (part client c taken) (part client c line) (part client c new)
+    ∙ ap (λ (ns : List ℕ). part client c taken ++ ns) (sym (part_joined client c line new))
+
+entered_after : (setting : ℕ) (past : List Moment) (now : Moment) (act : Act) (new c : ℕ) → Sound past → PoolAnswers setting past now act
+    → part (client_by act new (client past)) c (joined (entries past) (entered_by past act))
+    ≡ part (client_by act new (client past)) c (joined (takes past) (taken_by act))
+    ++ part (client_by act new (client past)) c (joined (without_all (taken_by act) (queue past)) (entered_by past act))
+entered_after setting past now (Took t) new c sound answers = took_part past t c sound (taken_so past t sound (ap job_taken answers))
+entered_after setting past now (TookDropped t) new c sound answers = took_part past t c sound (taken_so past t sound (ap job_taken answers))
+entered_after setting past now act new c sound answers =
+    enters_last (client_by act new (client past)) c (entries past) (takes past) (queue past) (entered_by past act) (same_parts setting past now act new c sound answers)
 
 -- ---- each moment
 
-sound_after : (setting : ℕ) (plan : List Bool) (past : List Moment) (now : Moment) → Sound past → PoolLaw setting plan past now → Sound (now ∷ past)
-sound_after setting plan past now sound law =
+-- An event that is answered rightly, and finds the hands so, keeps what is known; whatever it starts.
+pub sound_after : (setting : ℕ) (past : List Moment) (now : Moment) → Sound past → AnswerLaw setting past now → HoldsOne past now.event now.event.act → Sound (now ∷ past)
+sound_after setting past now sound answers one =
     let act = now.event.act in
-    let named : (s : ℕ) → Meets act s (standing past s) = λ s. meets setting past now act s sound law.answers law.turns.one in
+    let named : (s : ℕ) → Meets act s (standing past s) = λ s. meets setting past now act s sound answers one in
+    let knows : (s : ℕ) → times s (accepted_jobs (now ∷ past)) ≡ one_if (is_known (standing (now ∷ past) s)) =
+    λ s. times_joined s (accepted_jobs past) (accepted_by act)
+    ∙ accepted_after act s (standing past s) (is_marked past s) (times s (accepted_jobs past)) (named s) (sound.accepted s) in
+    let none : NoneBeyond (accepted_jobs (now ∷ past)) = beyond_after setting past now act answers sound.beyond in
+    let lines : (s : ℕ) → times s (queue (now ∷ past)) ≡ one_if (is_queued (standing (now ∷ past) s)) =
+    λ s. times_after s (taken_by act) (entered_by past act) (queue past)
+    ∙ queued_after past act s (standing past s) (is_marked past s) (times s (queue past)) (swept past s (sound.accepted s)) (named s) (sound.queued s) in
     record {
-      accepted = λ s. times_joined s (accepted_jobs past) (accepted_by act)
-          ∙ accepted_after act s (standing past s) (is_marked past s) (times s (accepted_jobs past)) (named s) (sound.accepted s);
-      beyond = beyond_after setting past now act law.answers sound.beyond;
-      queued = λ s. times_after s (taken_by act) (entered_by past act) (queue past)
-          ∙ queued_after past act s (standing past s) (is_marked past s) (times s (queue past)) (swept past s (sound.accepted s)) (named s) (sound.queued s);
+      accepted = knows;
+      beyond = none;
+      queued = lines;
       runs = λ s. times_after s (ended_by act) (taken_by act) (running past)
           ∙ running_after act s (standing past s) (is_marked past s) (times s (running past)) (named s) (sound.runs s);
       hands = record {
-        held = λ w s e. held_after past now.event act w s sound.hands (named s) law.turns.one e;
+        held = λ w s e. held_after past now.event act w s sound.hands (named s) one e;
         alone = λ v w s e f. alone_after past now.event act v w s sound.hands (named s) e f;
       };
-      entered = entered_after setting past now act sound law.answers;
+      within = λ s over. within_after (without_all (taken_by act) (queue past)) (entries past) (entered_by past act) s (standing (now ∷ past) s)
+          (sound.within s (fewer_before (accepted_jobs past) (accepted_by act) s over))
+          (unknown_is (standing (now ∷ past) s) (sym (knows s) ∙ none s over)) (lines s);
+      counted = counted_after setting past now act sound answers;
+      entered = λ c. entered_after setting past now act (client_of_step past now.step) c sound answers;
     }
 
 no_hand : (s : ℕ) → None ≡ Some s → ⊥
 no_hand s e = cc
 
-sound_of : (setting : ℕ) (plan : List Bool) (past : List Moment) → EachMayFollow (PoolLaw setting plan) past → Sound past
+pub sound_of : (setting : ℕ) (plan : List Bool) (past : List Moment) → EachMayFollow (PoolLaw setting plan) past → Sound past
 sound_of setting plan [] laws = record {
   accepted = λ s. refl;
   beyond = λ s over. refl;
   queued = λ s. refl;
   runs = λ s. refl;
   hands = record { held = λ w s e. absurd (no_hand s e); alone = λ v w s e f. absurd (no_hand s e) };
-  entered = refl;
+  within = λ s over. refl;
+  counted = refl;
+  entered = λ c. refl;
 }
-sound_of setting plan (now ∷ past) laws = sound_after setting plan past now (sound_of setting plan past laws.1) laws.0
+sound_of setting plan (now ∷ past) laws = sound_after setting past now (sound_of setting plan past laws.1) laws.0.answers laws.0.turns.one
 
-pub entered_so : (setting : ℕ) (plan : List Bool) (past : List Moment) → EachMayFollow (PoolLaw setting plan) past → entries past ≡ takes past ++ queue past
+-- what of a client entered was taken, or is queued
+pub entered_so : (setting : ℕ) (plan : List Bool) (past : List Moment) → EachMayFollow (PoolLaw setting plan) past
+    → (c : ℕ) → of_client past c (entries past) ≡ of_client past c (takes past) ++ of_client past c (queue past)
 entered_so setting plan past laws = (sound_of setting plan past laws).entered
 
 pub count_so : (setting : ℕ) (plan : List Bool) (past : List Moment) → EachMayFollow (PoolLaw setting plan) past → length (queue past) ≡ length (entries past) - length (takes past)
-count_so setting plan past laws =
-    let all : length (entries past) ≡ length (takes past) + length (queue past) = ap length (entered_so setting plan past laws) ∙ length-append (takes past) (queue past) in
-    omega (arith, all)
+count_so setting plan past laws = let all = (sound_of setting plan past laws).counted in omega (arith, all)
+
+-- a job of a serial that wasn't given stands nowhere
+pub stands_nowhere : (past : List Moment) → Sound past → (s : ℕ) → length (accepted_jobs past) < s → standing past s ≡ None
+stands_nowhere past sound s over = unknown_is (standing past s) (sym (sound.accepted s) ∙ sound.beyond s over)
+
+-- each job entered as often as it was taken and is queued
+pub times_so : (setting : ℕ) (plan : List Bool) (past : List Moment) → EachMayFollow (PoolLaw setting plan) past → (s : ℕ) → times s (entries past) ≡ times s (takes past) + times s (queue past)
+times_so setting plan past laws = parts_count past (sound_of setting plan past laws)
+
+-- what is first of the ready jobs is queued, and stands once in the queue
+pub first_so : (setting : ℕ) (plan : List Bool) (past : List Moment) → EachMayFollow (PoolLaw setting plan) past → (s : ℕ) → first_of (ready past) ≡ Some s → IsTaken past s
+first_so setting plan past laws s first = taken_is past s (sound_of setting plan past laws) first
 
 pub queued_so : (setting : ℕ) (plan : List Bool) (past : List Moment) → EachMayFollow (PoolLaw setting plan) past → (s : ℕ) → times s (queue past) ≡ one_if (is_queued (standing past s))
 queued_so setting plan past laws = (sound_of setting plan past laws).queued
@@ -514,6 +557,128 @@ held_so setting plan past laws = (sound_of setting plan past laws).hands.held
 pub known_so : (setting : ℕ) (plan : List Bool) (past : List Moment) → EachMayFollow (PoolLaw setting plan) past → (s : ℕ) → times s (accepted_jobs past) ≡ (if is_some (standing past s) then 1 else 0)
 known_so setting plan past laws = (sound_of setting plan past laws).accepted
 
--- where the answers are right, the order of entry is kept
+-- where the answers are right, each client's order of entry is kept
 pub order_after : (setting : ℕ) (plan : List Bool) (past : List Moment) (now : Moment) → EachMayFollow (PoolLaw setting plan) past → AnswerLaw setting past now → InOrder (now ∷ past)
-order_after setting plan past now laws answers = (queue (now ∷ past), entered_after setting past now now.event.act (sound_of setting plan past laws) answers)
+order_after setting plan past now laws answers c = (
+  of_client (now ∷ past) c (queue (now ∷ past)),
+  entered_after setting past now now.event.act (client_of_step past now.step) c (sound_of setting plan past laws) answers,
+)
+
+-- ---- what a take gives
+
+-- a take gives the first ready job
+pub take_first : (setting : ℕ) (past : List Moment) (now : Moment) (act : Act) (s : ℕ) → PoolAnswers setting past now act → job_taken act ≡ Some s → first_of (ready past) ≡ Some s
+take_first setting past now (Took t) s answers e = first_taken past s (ready past) (sym e ∙ ap job_taken answers)
+take_first setting past now (TookDropped t) s answers e = first_taken past s (ready past) (sym e ∙ ap job_taken answers)
+take_first setting past now _ s answers e = absurd cc
+
+none_from : (past : List Moment) (ns : List ℕ) → TookNone ≡ take_from past ns → ns ≡ []
+none_from past [] e = refl
+none_from past (n ∷ ns) e = let bad : None ≡ Some n = ap job_taken e ∙ taken_if (is_to_drop past n) n in absurd cc
+
+-- a take finds none only where none is ready
+pub idle_none : (setting : ℕ) (past : List Moment) (now : Moment) (act : Act) → PoolAnswers setting past now act → act ≡ TookNone → ready past ≡ []
+idle_none setting past now act answers e = none_from past (ready past) (subst (λ (a : Act). PoolAnswers setting past now a) e answers)
+
+-- where none is ready a take finds none
+pub none_idle : (setting : ℕ) (past : List Moment) (now : Moment) (act : Act) → is_take act ≡ true → PoolAnswers setting past now act → ready past ≡ [] → act ≡ TookNone
+none_idle setting past now (Took t) take answers none = answers ∙ ap (take_from past) none
+none_idle setting past now (TookDropped t) take answers none = answers ∙ ap (take_from past) none
+none_idle setting past now TookNone take answers none = refl
+none_idle setting past now _ take answers none = absurd cc
+
+-- what a take answers, where this is the first ready job
+pub answer_of_first : (past : List Moment) (s : ℕ) (ns : List ℕ) → first_of ns ≡ Some s → take_from past ns ≡ (if is_to_drop past s then TookDropped s else Took s)
+answer_of_first past s [] e = absurd cc
+answer_of_first past s (n ∷ ns) e = let same : n ≡ s = cc in ap (λ (m : ℕ). if is_to_drop past m then TookDropped m else Took m) same
+
+-- ---- where all that is queued is ready
+
+-- where no client limit is set
+pub all_ready : (past : List Moment) → client_limit past ≡ None → ready past ≡ queue past
+all_ready past none =
+    all_kept (λ s. has_room past (client past s)) (queue past) (λ s. ap (λ (l : Option ℕ). is_below l (length (of_client past (client past s) (running past)))) none)
+
+room_for_one : (limit : Option ℕ) → IfSome limit (λ n. 0 < n) → is_below limit 0 ≡ true
+room_for_one None some = refl
+room_for_one (Some n) some = grind (arith, nat_tests)
+
+-- where no job runs each client has room, whatever the limit
+pub room_beside_none : (past : List Moment) → running past ≡ [] → IfSome (client_limit past) (λ n. 0 < n) → (c : ℕ) → has_room past c ≡ true
+room_beside_none past none some c =
+    ap (λ (ns : List ℕ). is_below (client_limit past) (length (of_client past c ns))) none ∙ room_for_one (client_limit past) some
+
+-- so there each queued job is ready
+pub ready_beside_none : (past : List Moment) → running past ≡ [] → IfSome (client_limit past) (λ n. 0 < n) → ready past ≡ queue past
+ready_beside_none past none some = all_kept (λ s. has_room past (client past s)) (queue past) (λ s. room_beside_none past none some (client past s))
+
+-- ---- where no client limit was ever set, all jobs are taken in the order of entry
+
+pub unlimited_now : (past : List Moment) → NeverLimited past → client_limit past ≡ None
+unlimited_now [] free = free
+unlimited_now (now ∷ past) free = free.0
+
+took_front : (past : List Moment) (t : ℕ) → IsTaken past t → client_limit past ≡ None → entries past ≡ takes past ++ queue past
+    → entries past ≡ (takes past ++ t ∷ []) ++ without t (queue past)
+took_front past t taken none e =
+    e
+    ∙ ap (λ (ns : List ℕ). takes past ++ ns) (without_head t (queue past) (ap first_of (sym (all_ready past none)) ∙ taken.first) taken.once)
+    ∙ sym (append_assoc (takes past) (t ∷ []) (without t (queue past)))
+
+enters_behind : (before taken line new : List ℕ) → before ≡ taken ++ line → joined before new ≡ taken ++ joined line new
+enters_behind before taken line [] e = e
+enters_behind before taken line (n ∷ new) e = ap (λ (ns : List ℕ). ns ++ n ∷ new) e ∙ append_assoc taken line (n ∷ new)
+
+unlimited_after : (setting : ℕ) (past : List Moment) (now : Moment) (act : Act) → Sound past → PoolAnswers setting past now act → client_limit past ≡ None → entries past ≡ takes past ++ queue past
+    → joined (entries past) (entered_by past act) ≡ joined (takes past) (taken_by act) ++ joined (without_all (taken_by act) (queue past)) (entered_by past act)
+unlimited_after setting past now (Took t) sound answers none e = took_front past t (taken_so past t sound (ap job_taken answers)) none e
+unlimited_after setting past now (TookDropped t) sound answers none e = took_front past t (taken_so past t sound (ap job_taken answers)) none e
+unlimited_after setting past now act sound answers none e = enters_behind (entries past) (takes past) (queue past) (entered_by past act) e
+
+pub unlimited_so : (setting : ℕ) (plan : List Bool) (past : List Moment) → EachMayFollow (PoolLaw setting plan) past → NeverLimited past → entries past ≡ takes past ++ queue past
+unlimited_so setting plan [] laws free = refl
+unlimited_so setting plan (now ∷ past) laws free =
+    unlimited_after setting past now now.event.act (sound_of setting plan past laws.1) laws.0.answers (unlimited_now past free.1) (unlimited_so setting plan past laws.1 free.1)
+
+-- ---- what is ready with a new job
+
+-- the ready jobs after an act, which may bring a job of a new client
+abbrev pub ready_by : List Moment → Act → ℕ → List ℕ
+ready_by past act new =
+    filter
+    (λ s. is_below (client_limit_by act (client_limit past))
+    (length (part (client_by act new (client past)) (client_by act new (client past) s) (joined (without_all (ended_by act) (running past)) (taken_by act)))))
+    (joined (without_all (taken_by act) (queue past)) (entered_by past act))
+
+runs_within : (past : List Moment) → Sound past → NoneBeyondOf (accepted_jobs past) (running past)
+runs_within past sound s over =
+    sound.runs s ∙ ap (λ (st : Option Standing). one_if (is_running st)) (unknown_is (standing past s) (sym (sound.accepted s) ∙ sound.beyond s over))
+
+one_kept : (b : Bool) (test : ℕ → Bool) (s : ℕ) → test s ≡ b → filter test (s ∷ []) ≡ (if b then s ∷ [] else [])
+one_kept b test s e = ap (λ (c : Bool). cond c (s ∷ []) []) e
+
+-- A new job changes nothing for those that were there, and it is ready itself where its client has room.
+ready_beside : (past : List Moment) (line : List ℕ) (s c : ℕ) (clients : ℕ → ℕ) → clients s ≡ c
+    → ((t : ℕ) → is_in t line ≡ true → clients t ≡ client past t) → ((t : ℕ) → is_in t (running past) ≡ true → clients t ≡ client past t)
+    → filter (λ t. is_below (client_limit past) (length (part clients (clients t) (running past)))) (line ++ s ∷ [])
+    ≡ filter (λ t. has_room past (client past t)) line ++ (if has_room past c then s ∷ [] else [])
+ready_beside past line s c clients new queued runs =
+    filter-append test line (s ∷ [])
+    ∙ ap (λ (ns : List ℕ). ns ++ filter test (s ∷ []))
+    (filter_same test (λ t. has_room past (client past t)) line (λ t found. room (clients t) ∙ ap (has_room past) (queued t found)))
+    ∙ ap (λ (ns : List ℕ). filter (λ t. has_room past (client past t)) line ++ ns) (one_kept (has_room past c) test s (room (clients s) ∙ ap (has_room past) new))
+  where
+    test : ℕ → Bool
+    test t = is_below (client_limit past) (length (part clients (clients t) (running past)))
+
+    room : (d : ℕ) → is_below (client_limit past) (length (part clients d (running past))) ≡ has_room past d
+    room d = ap (λ (ns : List ℕ). is_below (client_limit past) (length ns)) (part_same clients (client past) d (running past) runs)
+
+-- the ready jobs after a new one, which is ready itself where its client has room
+pub ready_new : (setting : ℕ) (plan : List Bool) (past : List Moment) → EachMayFollow (PoolLaw setting plan) past → (s new : ℕ) → s ≡ 1 + length (accepted_jobs past)
+    → ready_by past (Accepted s) new ≡ ready past ++ (if has_room past new then s ∷ [] else [])
+ready_new setting plan past laws s new next =
+    let sound = sound_of setting plan past laws in
+    ready_beside past (queue past) s new (client_by (Accepted s) new (client past)) (ap (λ (b : Bool). if b then new else client past s) (same_self s))
+    (keeps_client past (Accepted s) new (queue past) next (queue_within past sound))
+    (keeps_client past (Accepted s) new (running past) next (runs_within past sound))

@@ -1,5 +1,5 @@
 -- Copiers: each reads one owner and writes another, by polls alone. All is read from what was seen since the copier was made.
-use Rattle.std.specs.Prelude.{◌≡◌, ℕ, zero, suc, ◌==◌, ◌&&◌, ◌||◌, not, min, if◌then◌else◌, Bool, true, false, List, [], ◌∷◌, ◌++◌, length, take, drop, map, filter, Option, Some, None}
+use Rattle.std.specs.Prelude.{◌≡◌, ℕ, zero, suc, ◌==◌, ◌&&◌, ◌||◌, not, min, if◌then◌else◌, Bool, true, false, List, [], ◌∷◌, ◌++◌, length, take, drop, map, filter, Option, Some}
 use Rattle.blocking_laws.specs.Core.{greatest}
 use Rattle.blocking_laws.specs.Seen.{IsBeginning, events, own, acts_of, cut, is_nothing, is_owner}
 use Rattle.blocking_laws.specs.Lent.{Copier, copiers, copier_in}

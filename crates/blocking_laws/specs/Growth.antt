@@ -2,7 +2,8 @@
 use Rattle.std.specs.Prelude.{◌≡◌, ℕ, ◌+◌, ◌-◌, ◌<◌, min, ◌==◌, not, Bool, true, false, List, [], ◌∷◌, length, get_or, ◌||◌, if◌then◌else◌, Option, Some, None}
 use Rattle.blocking_pool.specs.declared.pool.answer.Refusal.TheVariants.{NoWorker}
 use Rattle.blocking_laws.specs.Core.{greatest, StartAnswer, IsGrowth}
-use Rattle.blocking_laws.specs.Queue.{entered_by, ready, running}
+use Rattle.blocking_laws.specs.Jobs.{client_of_step}
+use Rattle.blocking_laws.specs.Queue.{entered_by, has_room, ready, running}
 use Rattle.blocking_laws.specs.Counts.{starts, refused_starts, workers, limit}
 use Rattle.blocking_laws.specs.declared.event.Act.{Act}
 use Rattle.blocking_laws.specs.declared.event.Act.TheVariants.{Accepted, Refused, LimitSet, Took, TookDropped, Ended}
@@ -18,10 +19,10 @@ grows past (TookDropped s) = true
 grows past (Ended s how) = false
 grows past act = not (length (entered_by past act) == 0)
 
--- the jobs beside the queue that a growth counts: a new job that is refused for want of a worker
-abbrev pub turned_away : Act → ℕ
-turned_away (Refused NoWorker) = 1
-turned_away _ = 0
+-- the jobs beside the queue that a growth counts: a new job that is refused for want of a worker, where its client has room
+abbrev pub turned_away : List Moment → Moment → Act → ℕ
+turned_away past now (Refused NoWorker) = if has_room past (client_of_step past now.step) then 1 else 0
+turned_away past now _ = 0
 
 -- Start number n may be answered so (true: it is refused) as the plan of the starts says, which begins with start 1. Beyond its
 -- end no start is refused.
@@ -35,7 +36,7 @@ abbrev pub StartsRightly : Bool → ℕ → List Bool → List Moment → Moment
 StartsRightly false setting plan past now = (now.event.started ≡ 0) × (now.event.start_refused ≡ false)
 StartsRightly true setting plan past now =
     IsGrowth (StartAnswer (IsPlanned plan))
-    (length (ready (now ∷ past)) + turned_away now.event.act)
+    (length (ready (now ∷ past)) + turned_away past now now.event.act)
     (workers past - length (running (now ∷ past)))
     (workers past) (limit setting past) now.event.first
     (record { started = now.event.started; refused = now.event.start_refused })

@@ -1,15 +1,17 @@
--- The jobs: who holds them, how each stands, and whether it was woken, cancelled or marked.
+-- The jobs: who holds them, of which client each is, how it stands, and whether it was woken, cancelled or marked.
 use Rattle.std.specs.Prelude.{ℕ, ◌==◌, ◌&&◌, ◌||◌, not, if◌then◌else◌, Bool, true, false, List, [], ◌∷◌, length, filter, Option, Some, None}
 use Rattle.blocking_pool.specs.declared.pool.answer.Woke.TheVariants.{Entered, Marked}
 use Rattle.blocking_pool.specs.declared.pool.standing.Standing.{Standing}
 use Rattle.blocking_pool.specs.declared.pool.standing.Standing.TheVariants.{Queued, Running, Parked, Done, Dropped}
 use Rattle.blocking_laws.specs.Seen.{joined, is_owner, is_task, has_timed_out}
 use Rattle.blocking_laws.specs.declared.event.Act.{Act}
-use Rattle.blocking_laws.specs.declared.event.Act.TheVariants.{Accepted, JobWoken, JobCancelled, Took, TookDropped, Ended, Swept, Stays, Stopped, HolderDropped, TaskCancelled}
+use Rattle.blocking_laws.specs.declared.event.Act.TheVariants.{Made, Accepted, JobWoken, JobCancelled, Took, TookDropped, Ended, Swept, Stays, Stopped, HolderDropped, TaskCancelled}
 use Rattle.blocking_laws.specs.declared.event.Event.{Event}
 use Rattle.blocking_laws.specs.declared.event.Moment.{Moment}
 use Rattle.blocking_laws.specs.declared.event.Party.{Party}
 use Rattle.blocking_laws.specs.declared.event.Party.TheVariants.{Owner, Task, Pool}
+use Rattle.blocking_laws.specs.declared.step.Step.{Step}
+use Rattle.blocking_laws.specs.declared.step.Step.TheVariants.{New, Own, Spawn}
 
 -- ---- who holds a job
 
@@ -61,6 +63,34 @@ abbrev pub is_holder : Option Party → Party → Bool
 is_holder (Some (Owner h)) party = is_owner h party
 is_holder (Some (Task k)) party = is_task k party
 is_holder _ party = false
+
+-- ---- of which client a job is
+
+-- the client of the owner that a step makes
+abbrev pub client_made : Step → ℕ
+client_made (New capacity c) = c
+client_made _ = 0
+
+-- whether an act makes this owner
+abbrev pub makes : ℕ → Act → Bool
+makes h (Made g capacity) = g == h
+makes h _ = false
+
+-- the client that an owner was made for
+abbrev pub client_of_owner : List Moment → ℕ → ℕ
+client_of_owner [] h = 0
+client_of_owner (now ∷ past) h = if makes h now.event.act then client_made now.step else client_of_owner past h
+
+-- the client of the job that a step brings: a call's is the one that the step names, a session's that of its owner
+abbrev pub client_of_step : List Moment → Step → ℕ
+client_of_step past (Spawn c) = c
+client_of_step past (Own h) = client_of_owner past h
+client_of_step past _ = 0
+
+-- the client of a job
+abbrev pub client : List Moment → ℕ → ℕ
+client [] s = 0
+client (now ∷ past) s = if accepts s now.event.act then client_of_step past now.step else client past s
 
 -- ---- woken, cancelled, marked
 

@@ -18,7 +18,7 @@ use Rattle.blocking_laws.specs.declared.step.Step.TheVariants.{New, Arrive}
 
 -- made 0
 abbrev pub operator_made : List Moment
-operator_made = [] ▸ moment (New 0) (Owner 0) None (Made 0 0) 1
+operator_made = [] ▸ moment (New 0 0) (Owner 0) None (Made 0 0) 1
 
 -- made 0 / asked (for an operation) / accepted 1 +1
 abbrev pub operation_begun : List Moment

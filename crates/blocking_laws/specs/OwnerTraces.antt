@@ -90,7 +90,15 @@ FirstOwnersJobParksRightly past = ParksRightly past 1 (cut 0 (events past))
 
 -- made 0
 abbrev pub one_made : List Moment
-one_made = [] ▸ moment (New 4) (Owner 0) None (Made 0 4) 1
+one_made = [] ▸ moment (New 4 0) (Owner 0) None (Made 0 4) 1
+
+-- made 0 / made 1 / asked / accepted 1 +1: the job is of client 7, for which its owner was made
+abbrev pub begun_for_client : List Moment
+begun_for_client = []
+    ▸ moment (New 4 7) (Owner 0) None (Made 0 4) 1
+    ▸ moment (New 4 8) (Owner 1) None (Made 1 4) 1
+    ▸ asks (Read 2) 1
+    ▸ starting 1 (polls (Accepted 1) 1)
 
 -- made 0 / asked
 abbrev pub one_asked : List Moment

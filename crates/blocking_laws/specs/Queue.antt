@@ -1,11 +1,12 @@
--- The queue: what entered it, and what was taken out of it.
-use Rattle.std.specs.Prelude.{◌≡◌, ℕ, ◌==◌, ◌&&◌, if◌then◌else◌, Bool, List, [], ◌∷◌, length, filter}
+-- The queue: what entered it, what was taken out of it, and which queued jobs are ready.
+use Rattle.std.specs.Prelude.{◌≡◌, ℕ, ◌==◌, ◌&&◌, if◌then◌else◌, Bool, List, [], ◌∷◌, length, filter, Option, None}
 use Rattle.blocking_pool.specs.declared.pool.answer.Woke.TheVariants.{Entered}
 use Rattle.blocking_pool.specs.declared.pool.standing.Standing.TheVariants.{Queued}
-use Rattle.blocking_laws.specs.Seen.{IsBeginning, without_all, joined}
-use Rattle.blocking_laws.specs.Jobs.{accepted_jobs, standing, is_parked, is_marked, sweeps}
+use Rattle.blocking_laws.specs.Core.{is_below}
+use Rattle.blocking_laws.specs.Seen.{AtEveryBeginning, IsBeginning, without_all, joined}
+use Rattle.blocking_laws.specs.Jobs.{accepted_jobs, client, standing, is_parked, is_marked, sweeps}
 use Rattle.blocking_laws.specs.declared.event.Act.{Act}
-use Rattle.blocking_laws.specs.declared.event.Act.TheVariants.{Accepted, JobWoken, JobCancelled, Took, TookDropped, Ended}
+use Rattle.blocking_laws.specs.declared.event.Act.TheVariants.{Accepted, JobWoken, JobCancelled, ClientLimitSet, Took, TookDropped, Ended}
 use Rattle.blocking_laws.specs.declared.event.Moment.{Moment}
 
 -- What a sweep puts back: the jobs that are parked and bear a mark, in the order in which they were accepted.
@@ -42,10 +43,6 @@ abbrev pub queue : List Moment → List ℕ
 queue [] = []
 queue (now ∷ past) = joined (without_all (taken_by now.event.act) (queue past)) (entered_by past now.event.act)
 
--- the queued jobs that may run, in order: all of them
-abbrev pub ready : List Moment → List ℕ
-ready past = queue past
-
 -- the job whose turn an act ends
 abbrev pub ended_by : Act → List ℕ
 ended_by (Ended s how) = s ∷ []
@@ -56,9 +53,35 @@ abbrev pub running : List Moment → List ℕ
 running [] = []
 running (now ∷ past) = joined (without_all (ended_by now.event.act) (running past)) (taken_by now.event.act)
 
--- Jobs are taken in the order in which they entered.
+-- the client limit after an act that sets it or takes it away; any other act leaves it as it was
+abbrev pub client_limit_by : Act → Option ℕ → Option ℕ
+client_limit_by (ClientLimitSet n) before = n
+client_limit_by _ before = before
+
+-- the client limit, if there is one: how many jobs of one client may run
+abbrev pub client_limit : List Moment → Option ℕ
+client_limit [] = None
+client_limit (now ∷ past) = client_limit_by now.event.act (client_limit past)
+
+-- No client limit was ever set.
+abbrev pub NeverLimited : List Moment → Type 0
+NeverLimited past = AtEveryBeginning (λ before. client_limit before ≡ None) past
+
+-- these jobs without those of other clients
+abbrev pub of_client : List Moment → ℕ → List ℕ → List ℕ
+of_client past c jobs = filter (λ s. client past s == c) jobs
+
+-- whether one more job of the client may run
+abbrev pub has_room : List Moment → ℕ → Bool
+has_room past c = is_below (client_limit past) (length (of_client past c (running past)))
+
+-- the queued jobs that may run, in order: those whose client has room
+abbrev pub ready : List Moment → List ℕ
+ready past = filter (λ s. has_room past (client past s)) (queue past)
+
+-- Each client's jobs are taken in the order in which they entered.
 abbrev pub InOrder : List Moment → Type 0
-InOrder past = IsBeginning (takes past) (entries past)
+InOrder past = (c : ℕ) → IsBeginning (of_client past c (takes past)) (of_client past c (entries past))
 
 -- how often a number stands in a list
 abbrev pub times : ℕ → List ℕ → ℕ

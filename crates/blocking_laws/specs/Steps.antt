@@ -11,7 +11,7 @@ use Rattle.blocking_laws.specs.Lent.{Copier, copiers, copier_in, has_owner, link
 use Rattle.blocking_laws.specs.Copies.{CopierAction, AskReader, AskWriter, Tells, next_of_copier}
 use Rattle.blocking_laws.specs.TaskLaws.{is_gone, was_cancelled, is_let_go}
 use Rattle.blocking_laws.specs.declared.event.Act.{Act}
-use Rattle.blocking_laws.specs.declared.event.Act.TheVariants.{Made, Asked, Accepted, Refused, JobWoken, JobCancelled, LimitSet, Swept, Waits, TaskGot, TaskGotNone, TaskCancelled, TaskDetached, HolderDropped, Arrived, Took, TookDropped, TookNone, Stays, Stopped, Ended, HandedOut, Answered, Linked, NoAction}
+use Rattle.blocking_laws.specs.declared.event.Act.TheVariants.{Made, Asked, Accepted, Refused, JobWoken, JobCancelled, LimitSet, ClientLimitSet, Swept, Waits, TaskGot, TaskGotNone, TaskCancelled, TaskDetached, HolderDropped, Arrived, Took, TookDropped, TookNone, Stays, Stopped, Ended, HandedOut, Answered, Linked, NoAction}
 use Rattle.blocking_laws.specs.declared.event.Moment.{Moment}
 use Rattle.blocking_laws.specs.declared.event.Party.{Party}
 use Rattle.blocking_laws.specs.declared.event.Party.TheVariants.{Owner, Task, Worker, Pool}
@@ -19,7 +19,7 @@ use Rattle.blocking_laws.specs.declared.event.WaitEnd.{WaitEnd}
 use Rattle.blocking_laws.specs.declared.event.WaitEnd.TheVariants.{Woken, TimedOut}
 use Rattle.blocking_laws.specs.declared.step.Answer.{Answer}
 use Rattle.blocking_laws.specs.declared.step.Step.{Step}
-use Rattle.blocking_laws.specs.declared.step.Step.TheVariants.{New, Ask, Own, DropOwner, Spawn, OfTask, Arrive, Take, Job, Io, End, Wait, Late, SetLimit, Sweep, Stray, Strike, Link, Copy}
+use Rattle.blocking_laws.specs.declared.step.Step.TheVariants.{New, Ask, Own, DropOwner, Spawn, OfTask, Arrive, Take, Job, Io, End, Wait, Late, SetLimit, Sweep, Stray, Strike, SetClientLimit, Link, Copy}
 use Rattle.blocking_laws.specs.declared.step.TaskCall.{TaskCall}
 use Rattle.blocking_laws.specs.declared.step.TaskCall.TheVariants.{Poll, Cancel, Detach, Drop}
 
@@ -152,14 +152,19 @@ IsOfCopier (Some c) past act = act ≡ act_of_copier (next_of_copier c past)
 
 -- ---- steps
 
+-- whether a client limit may be set so: to a number above 0, or to none
+abbrev pub may_limit : Option ℕ → Bool
+may_limit (Some n) = nat_lt 0 n
+may_limit None = true
+
 -- Whether a step names a party that is there and has an action of that kind. An owner may always be made; it is asked where it may be, and
 -- dropped where it rests, if it isn't lent to a copier; and its poll goes on while it is under way.
 abbrev pub has_action : List Moment → Step → Bool
-has_action past (New capacity) = true
+has_action past (New capacity c) = true
 has_action past (Ask h call) = may_ask (acts_of_owner h (events past)) call && not (has_owner h (copiers past))
 has_action past (Own h) = not (is_poll_over (under_way (acts_of_owner h (events past))))
 has_action past (DropOwner h) = rests (acts_of_owner h (events past)) && not (has_owner h (copiers past))
-has_action past Spawn = true
+has_action past (Spawn c) = true
 has_action past (OfTask k c) = nat_lt k (tasks past) && may_call (acts_of_task k (events past)) c
 has_action past Arrive = nat_lt (arrivals past) (starts past)
 has_action past (Take w) = is_free past w
@@ -172,6 +177,7 @@ has_action past (SetLimit n) = nat_lt 0 n
 has_action past Sweep = true
 has_action past (Stray s) = is_some (holder past s)
 has_action past (Strike s) = may_cancel (holder past s) past
+has_action past (SetClientLimit n) = may_limit n
 has_action past (Link a b n) = may_lend past a && may_lend past b && not (a == b) && nat_lt 0 n
 has_action past (Copy k) = may_copy (copier_in k (copiers past)) past
 
@@ -191,7 +197,7 @@ named step = Pool
 
 -- who takes a step: the party that it names, the next owner or worker where one is made or arrives, and the owner whom a copier asks
 abbrev pub party : List Moment → Step → Party
-party past (New capacity) = Owner (owners past)
+party past (New capacity c) = Owner (owners past)
 party past Arrive = Worker (1 + arrivals past)
 party past (Copy k) = copier_party (copier_in k (copiers past)) past
 party past step = named step
@@ -276,11 +282,11 @@ IsCancelOf s _ = ⊥
 
 -- What is seen of a step is of its kind and has its numbers. What owners, tasks and jobs may do is the matter of their own laws.
 abbrev pub Fits : List Moment → Step → Act → Type 0
-Fits past (New capacity) act = act ≡ Made (owners past) capacity
+Fits past (New capacity c) act = act ≡ Made (owners past) capacity
 Fits past (Ask h call) act = act ≡ Asked call
 Fits past (Own h) act = is_of_pool act ≡ false
 Fits past (DropOwner h) act = act ≡ HolderDropped
-Fits past Spawn act = IsBegun act
+Fits past (Spawn c) act = IsBegun act
 Fits past (OfTask k c) act = IsOfTask c act
 Fits past Arrive act = act ≡ Arrived (1 + arrivals past)
 Fits past (Take w) act = is_take act ≡ true
@@ -293,6 +299,7 @@ Fits past (SetLimit n) act = act ≡ LimitSet n
 Fits past Sweep act = IsSweep act
 Fits past (Stray s) act = IsWakeOf s act
 Fits past (Strike s) act = IsCancelOf s act
+Fits past (SetClientLimit n) act = act ≡ ClientLimitSet n
 Fits past (Link a b n) act = act ≡ Linked (links past)
 Fits past (Copy k) act = IsOfCopier (copier_in k (copiers past)) past act
 

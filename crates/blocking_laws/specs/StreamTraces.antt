@@ -18,7 +18,7 @@ use Rattle.blocking_laws.specs.declared.step.Step.TheVariants.{New, Arrive}
 
 -- made 0
 abbrev pub stream_made : List Moment
-stream_made = [] ▸ moment (New 1) (Owner 0) None (Made 0 1) 1
+stream_made = [] ▸ moment (New 1 0) (Owner 0) None (Made 0 1) 1
 
 -- made 0 / asked (for an item)
 abbrev pub item_asked : List Moment

@@ -11,7 +11,7 @@ use Rattle.blocking_laws.specs.Hex.{hex_text}
 use Rattle.blocking_laws.specs.declared.step.Answer.{Answer}
 use Rattle.blocking_laws.specs.declared.step.Answer.TheVariants as answer
 use Rattle.blocking_laws.specs.declared.event.Act.{Act}
-use Rattle.blocking_laws.specs.declared.event.Act.TheVariants.{Made, Asked, OwnerClosed, Got, GotItem, GotEnd, Filled, FillShut, Back, ResultGot, Replied, RoomFree, RoomShut, Put, Lost, Peeked, Drained, Taken as TakenOut, JobClosed, ResultPut, Accepted, Refused, JobWoken, JobCancelled, LimitSet, Swept, Waits, TaskGot, TaskGotNone, TaskCancelled, TaskDetached, HolderDropped, Arrived, Took, TookDropped, TookNone, Stays, Stopped, Ended, HandedOut, Answered, JobParked, Finished, GaveUp, HolderWoken, Linked, Copied, CopyFailed, NoAction}
+use Rattle.blocking_laws.specs.declared.event.Act.TheVariants.{Made, Asked, OwnerClosed, Got, GotItem, GotEnd, Filled, FillShut, Back, ResultGot, Replied, RoomFree, RoomShut, Put, Lost, Peeked, Drained, Taken as TakenOut, JobClosed, ResultPut, Accepted, Refused, JobWoken, JobCancelled, LimitSet, ClientLimitSet, Swept, Waits, TaskGot, TaskGotNone, TaskCancelled, TaskDetached, HolderDropped, Arrived, Took, TookDropped, TookNone, Stays, Stopped, Ended, HandedOut, Answered, JobParked, Finished, GaveUp, HolderWoken, Linked, Copied, CopyFailed, NoAction}
 use Rattle.blocking_laws.specs.declared.event.CopySide.{CopySide}
 use Rattle.blocking_laws.specs.declared.event.CopySide.TheVariants as side
 use Rattle.blocking_laws.specs.declared.event.Event.{Event}
@@ -94,6 +94,8 @@ act_text (Refused why) = codes "refused " ++ refusal_text why
 act_text (JobWoken s woke) = codes "delivered " ++ decimal s ++ codes " " ++ woke_text woke
 act_text (JobCancelled s woke) = codes "cancelled " ++ decimal s ++ codes " " ++ woke_text woke
 act_text (LimitSet n) = codes "limit " ++ decimal n
+act_text (ClientLimitSet (Some n)) = codes "clients " ++ decimal n
+act_text (ClientLimitSet None) = codes "clients none"
 act_text (Swept n) = codes "swept " ++ decimal n
 act_text Waits = codes "waits"
 act_text (TaskGot n) = codes "got " ++ decimal n

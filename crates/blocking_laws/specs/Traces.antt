@@ -8,7 +8,7 @@ use Rattle.blocking_laws.specs.Seen.{EachMayFollow, events, task_cut}
 use Rattle.blocking_laws.specs.TaskLaws.{TaskLaw}
 use Rattle.blocking_laws.specs.Legal.{PoolLaw}
 use Rattle.blocking_laws.specs.declared.event.Act.{Act}
-use Rattle.blocking_laws.specs.declared.event.Act.TheVariants.{Accepted, Refused, JobWoken, LimitSet, Swept, Stopped, Waits, TaskGot, TaskCancelled, TaskDetached, HolderDropped, Arrived, Took, TookDropped, Ended, Answered, JobParked, Finished, GaveUp, NoAction}
+use Rattle.blocking_laws.specs.declared.event.Act.TheVariants.{Accepted, Refused, JobWoken, LimitSet, ClientLimitSet, Swept, Stopped, Waits, TaskGot, TaskCancelled, TaskDetached, HolderDropped, Arrived, Took, TookDropped, Ended, Answered, JobParked, Finished, GaveUp, NoAction}
 use Rattle.blocking_laws.specs.declared.event.Moment.{Moment}
 use Rattle.blocking_laws.specs.declared.event.Party.{Party}
 use Rattle.blocking_laws.specs.declared.event.Party.TheVariants.{Task, Worker, Pool}
@@ -16,7 +16,7 @@ use Rattle.blocking_laws.specs.declared.event.HolderWaker.TheVariants.{Taken, Ab
 use Rattle.blocking_laws.specs.declared.event.WaitEnd.TheVariants.{TimedOut}
 use Rattle.blocking_laws.specs.declared.step.Answer.TheVariants.{Number}
 use Rattle.blocking_laws.specs.declared.step.Step.{Step}
-use Rattle.blocking_laws.specs.declared.step.Step.TheVariants.{Spawn, OfTask, Arrive, Take, Job, Io, End, Late, SetLimit, Sweep, Stray}
+use Rattle.blocking_laws.specs.declared.step.Step.TheVariants.{Spawn, OfTask, Arrive, Take, Job, Io, End, Late, SetLimit, Sweep, Stray, SetClientLimit}
 use Rattle.blocking_laws.specs.declared.step.TaskCall.TheVariants.{Poll, Cancel, Detach, Drop}
 
 -- ---- how they are written
@@ -69,7 +69,7 @@ FirstTaskLaw past now = LawOfTask 0 1 past now
 
 -- accepted 1 +1
 abbrev pub one_queued : List Moment
-one_queued = [] ▸ starting 1 (moment Spawn Pool None (Accepted 1) 1)
+one_queued = [] ▸ starting 1 (moment (Spawn 0) Pool None (Accepted 1) 1)
 
 -- accepted 1 +1 / arrived 1
 abbrev pub one_arrived : List Moment
@@ -169,7 +169,7 @@ detached = one_queued ▸ moment (OfTask 0 Detach) (Task 0) None TaskDetached 2
 
 -- accepted 1 +1 / arrived 1 / accepted 2
 abbrev pub two_queued : List Moment
-two_queued = one_arrived ▸ moment Spawn Pool None (Accepted 2) 2
+two_queued = one_arrived ▸ moment (Spawn 0) Pool None (Accepted 2) 2
 
 -- accepted 1 +1 / arrived 1 / accepted 2 / dropped (of job 1)
 abbrev pub front_dropped : List Moment
@@ -188,16 +188,16 @@ two_workers = two_queued
 -- accepted 1 +1 / accepted 2 / accepted 3 / accepted 4 / accepted 5
 abbrev pub five_queued : List Moment
 five_queued = one_queued
-    ▸ moment Spawn Pool None (Accepted 2) 2
-    ▸ moment Spawn Pool None (Accepted 3) 2
-    ▸ moment Spawn Pool None (Accepted 4) 2
-    ▸ moment Spawn Pool None (Accepted 5) 2
+    ▸ moment (Spawn 0) Pool None (Accepted 2) 2
+    ▸ moment (Spawn 0) Pool None (Accepted 3) 2
+    ▸ moment (Spawn 0) Pool None (Accepted 4) 2
+    ▸ moment (Spawn 0) Pool None (Accepted 5) 2
 
 -- ---- refused starts
 
 -- refused worker -1
 abbrev pub start_refused : List Moment
-start_refused = [] ▸ refusing (moment Spawn Pool None (Refused NoWorker) 1)
+start_refused = [] ▸ refusing (moment (Spawn 0) Pool None (Refused NoWorker) 1)
 
 -- refused worker -1 / nothing
 abbrev pub still_unstaffed : List Moment
@@ -205,7 +205,7 @@ still_unstaffed = start_refused ▸ moment Arrive Pool None NoAction 2
 
 -- accepted 1 +1 / accepted 2 / accepted 3 / accepted 4 / accepted 5 / accepted 6 -2
 abbrev pub second_refused : List Moment
-second_refused = five_queued ▸ refusing (moment Spawn Pool None (Accepted 6) 2)
+second_refused = five_queued ▸ refusing (moment (Spawn 0) Pool None (Accepted 6) 2)
 
 -- ---- what the pool did before the first call
 
@@ -213,9 +213,9 @@ second_refused = five_queued ▸ refusing (moment Spawn Pool None (Accepted 6) 2
 abbrev pub late_queued : List Moment
 late_queued = []
     ▸ moment (SetLimit 2) Pool None (LimitSet 2) 1
-    ▸ moment Spawn Pool None (Refused Memory) 1
+    ▸ moment (Spawn 0) Pool None (Refused Memory) 1
     ▸ moment Sweep Pool None (Swept 0) 1
-    ▸ starting 1 (moment Spawn Pool None (Accepted 1) 1)
+    ▸ starting 1 (moment (Spawn 0) Pool None (Accepted 1) 1)
 
 -- ---- jobs that wait: no call does, and so these keep the pool's law alone
 
@@ -268,7 +268,7 @@ two_dropped = two_parked
 -- accepted 1 +1 / arrived 1 / took 1 / accepted 2 / delivered 1 marked / parked / ended 1 queued
 abbrev pub queued_again : List Moment
 queued_again = one_taken
-    ▸ moment Spawn Pool None (Accepted 2) 2
+    ▸ moment (Spawn 0) Pool None (Accepted 2) 2
     ▸ moment (Stray 1) Pool None (JobWoken 1 Marked) 2
     ▸ moment (Job 1) (Worker 1) (Some 1) JobParked 2
     ▸ moment (End 1) (Worker 1) (Some 1) (Ended 1 Queued) 2
@@ -276,11 +276,46 @@ queued_again = one_taken
 -- accepted 1 +1 / arrived 1 / took 1 / accepted 2 .. accepted 6 / limit 2 / delivered 1 marked / parked, at limit 1 until then
 abbrev pub raised_limit : List Moment
 raised_limit = one_taken
-    ▸ moment Spawn Pool None (Accepted 2) 2
-    ▸ moment Spawn Pool None (Accepted 3) 2
-    ▸ moment Spawn Pool None (Accepted 4) 2
-    ▸ moment Spawn Pool None (Accepted 5) 2
-    ▸ moment Spawn Pool None (Accepted 6) 2
+    ▸ moment (Spawn 0) Pool None (Accepted 2) 2
+    ▸ moment (Spawn 0) Pool None (Accepted 3) 2
+    ▸ moment (Spawn 0) Pool None (Accepted 4) 2
+    ▸ moment (Spawn 0) Pool None (Accepted 5) 2
+    ▸ moment (Spawn 0) Pool None (Accepted 6) 2
     ▸ moment (SetLimit 2) Pool None (LimitSet 2) 2
     ▸ moment (Stray 1) Pool None (JobWoken 1 Marked) 2
     ▸ moment (Job 1) (Worker 1) (Some 1) JobParked 2
+
+-- ---- jobs of several clients
+
+-- clients 1
+abbrev pub clients_limited : List Moment
+clients_limited = [] ▸ moment (SetClientLimit (Some 1)) Pool None (ClientLimitSet (Some 1)) 1
+
+-- clients 1 / accepted 1 +1 / accepted 2 / accepted 3 / arrived 1: jobs 1 and 2 are of client 7, job 3 of client 8
+abbrev pub three_queued : List Moment
+three_queued = clients_limited
+    ▸ starting 1 (moment (Spawn 7) Pool None (Accepted 1) 1)
+    ▸ moment (Spawn 7) Pool None (Accepted 2) 2
+    ▸ moment (Spawn 8) Pool None (Accepted 3) 2
+    ▸ moment Arrive (Worker 1) None (Arrived 1) 2
+
+-- .. / took 1 +2 / arrived 2: client 7 is at its limit
+abbrev pub one_at_limit : List Moment
+one_at_limit = three_queued
+    ▸ starting 1 (moment (Take 1) (Worker 1) (Some 1) (Took 1) 2)
+    ▸ moment Arrive (Worker 2) None (Arrived 2) 3
+
+-- .. / took 3 / answered 1 / finished / ended 3 done: the job that is queued isn't ready
+abbrev pub none_ready : List Moment
+none_ready = one_at_limit
+    ▸ moment (Take 2) (Worker 2) (Some 3) (Took 3) 3
+    ▸ moment (Io 2 (Number 1)) (Worker 2) (Some 3) (Answered (Number 1)) 3
+    ▸ moment (Job 2) (Worker 2) (Some 3) (Finished Absent) 3
+    ▸ moment (End 2) (Worker 2) (Some 3) (Ended 3 Done) 3
+
+-- .. / ended 3 done / answered 1 / finished / ended 1 done: the client has room again
+abbrev pub room_again : List Moment
+room_again = none_ready
+    ▸ moment (Io 1 (Number 1)) (Worker 1) (Some 1) (Answered (Number 1)) 3
+    ▸ moment (Job 1) (Worker 1) (Some 1) (Finished Absent) 3
+    ▸ moment (End 1) (Worker 1) (Some 1) (Ended 1 Done) 3

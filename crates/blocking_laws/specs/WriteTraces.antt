@@ -18,7 +18,7 @@ use Rattle.blocking_laws.specs.declared.step.Step.TheVariants.{New, Arrive}
 
 -- made 0
 abbrev pub writer_made : List Moment
-writer_made = [] ▸ moment (New 2) (Owner 0) None (Made 0 2) 1
+writer_made = [] ▸ moment (New 2 0) (Owner 0) None (Made 0 2) 1
 
 -- made 0 / asked (to write 78797a)
 abbrev pub write_asked : List Moment

@@ -131,6 +131,8 @@ pub enum Act {
     JobCancelled(u64, Woke),
     /// The limit was set to this number of workers.
     LimitSet(usize),
+    /// The limit of running jobs for each client was set to this number, or taken away.
+    ClientLimitSet(Option<usize>),
     /// A sweep put back so many jobs.
     Swept(usize),
     // of an owner or a task
@@ -154,7 +156,7 @@ pub enum Act {
     Took(u64),
     /// It took this job, to drop it.
     TookDropped(u64),
-    /// It found no job to take.
+    /// It found no job that is ready.
     TookNone,
     /// The worker of this number stays, after a wait that ended so.
     Stays(usize, WaitEnd),
@@ -231,6 +233,7 @@ impl Act {
             Act::JobWoken(serial, woke) => Act::JobWoken(*serial, *woke),
             Act::JobCancelled(serial, woke) => Act::JobCancelled(*serial, *woke),
             Act::LimitSet(limit) => Act::LimitSet(*limit),
+            Act::ClientLimitSet(limit) => Act::ClientLimitSet(*limit),
             Act::Swept(count) => Act::Swept(*count),
             Act::Waits => Act::Waits,
             Act::HolderDropped => Act::HolderDropped,

@@ -9,19 +9,20 @@ use std::alloc::AllocError;
 ///
 /// Owners are numbered from 0 in the order in which they were made, tasks from 0 in the order in which their calls were
 /// accepted, workers from 1 in the order in which they arrived, copiers from 0 in the order in which they were made, and jobs by their
-/// serials, from 1.
+/// serials, from 1. Clients go by numbers of their own; 0 is the client of who names none.
 #[derive(Debug, Drop)]
 pub enum Step {
-    /// An owner is made, with an idle handle. Its sessions' pipes hold so many bytes or items; 0 stands for the defaults.
-    New(usize),
+    /// An owner is made, with an idle handle. Its sessions' pipes hold so many bytes or items; 0 stands for the defaults. Its jobs are those
+    /// of this client.
+    New(usize, u32),
     /// A poll of this owner, by its number from 0, begins, and asks for this.
     Ask(usize, HandleCall),
     /// The poll of this owner, by its number from 0, takes its next action.
     Own(usize),
     /// This owner, by its number from 0, is dropped.
     DropOwner(usize),
-    /// A call is handed to the pool, whose answer comes by a step of its own.
-    Spawn,
+    /// A call of this client is handed to the pool, whose answer comes by a step of its own.
+    Spawn(u32),
     /// This task, by its number from 0, is polled, cancelled, detached or dropped.
     OfTask(usize, TaskCall),
     /// A started worker arrives.
@@ -46,6 +47,8 @@ pub enum Step {
     Stray(u64),
     /// The job of this serial, from 1, is cancelled in the pool: its task was dropped or cancelled.
     Strike(u64),
+    /// The limit of running jobs for each client is set, to a number above 0, or taken away.
+    SetClientLimit(Option<usize>),
     /// A copier is made, which reads the first of these owners and writes the second, by their numbers from 0, and reads at most so many
     /// bytes at once.
     Link(usize, usize, usize),
@@ -59,11 +62,11 @@ impl Step {
         ensures { IfOk result (λ step. step ≡ self.now) }
     {
         Ok(match self {
-            Step::New(capacity) => Step::New(*capacity),
+            Step::New(capacity, client) => Step::New(*capacity, *client),
             Step::Ask(owner, call) => Step::Ask(*owner, call.try_clone()?),
             Step::Own(owner) => Step::Own(*owner),
             Step::DropOwner(owner) => Step::DropOwner(*owner),
-            Step::Spawn => Step::Spawn,
+            Step::Spawn(client) => Step::Spawn(*client),
             Step::OfTask(task, call) => Step::OfTask(*task, *call),
             Step::Arrive => Step::Arrive,
             Step::Take(worker) => Step::Take(*worker),
@@ -76,6 +79,7 @@ impl Step {
             Step::Sweep => Step::Sweep,
             Step::Stray(serial) => Step::Stray(*serial),
             Step::Strike(serial) => Step::Strike(*serial),
+            Step::SetClientLimit(limit) => Step::SetClientLimit(*limit),
             Step::Link(reader, writer, piece) => Step::Link(*reader, *writer, *piece),
             Step::Copy(copier) => Step::Copy(*copier),
         })

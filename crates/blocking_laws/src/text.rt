@@ -56,6 +56,8 @@ impl fmt::Display for Act {
             Act::JobWoken(serial, woke) => write!(f, "delivered {serial} {}", woke_word(*woke)),
             Act::JobCancelled(serial, woke) => write!(f, "cancelled {serial} {}", woke_word(*woke)),
             Act::LimitSet(limit) => write!(f, "limit {limit}"),
+            Act::ClientLimitSet(Some(limit)) => write!(f, "clients {limit}"),
+            Act::ClientLimitSet(None) => f.write_str("clients none"),
             Act::Swept(count) => write!(f, "swept {count}"),
             Act::Waits => f.write_str("waits"),
             Act::HolderDropped => f.write_str("dropped"),

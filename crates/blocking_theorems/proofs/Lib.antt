@@ -1,7 +1,8 @@
 pub mod Growths
-pub mod OneAnswer
-pub mod OneAct
-pub mod OneOwnerAct
 pub mod Holders
-pub mod OneEvent
 pub mod NoCopies
+pub mod OneAct
+pub mod OneAnswer
+pub mod OneEvent
+pub mod OneOwnerAct
+pub mod Orders

@@ -1,6 +1,6 @@
 -- A trace without steps of copiers keeps the law of copies.
-use Rattle.std.proofs.Common.{◌≡◌, List, [], ◌∷◌, ◌&&◌, Bool, true, false, refl, sym, ap, ◌∙◌, arith}
-use Rattle.blocking_laws.specs.Copies.{CopyLaw, StepTells, TellsTruly}
+use Rattle.std.proofs.Common.{◌≡◌, List, [], ◌∷◌, ◌&&◌, Bool, true, false, refl, ap, ◌∙◌, arith}
+use Rattle.blocking_laws.specs.Copies.{CopyLaw, StepTells}
 use Rattle.blocking_laws.specs.Lent.{Copier, copiers, copiers_by, copier_in}
 use Rattle.blocking_laws.specs.Seen.{EachMayFollow}
 use Rattle.blocking_laws.specs.declared.event.Act.{Act}

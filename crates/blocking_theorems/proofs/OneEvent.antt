@@ -5,7 +5,7 @@ use Rattle.std.proofs.lemmas.Bool.Decides.{nat_tests}
 use mathlib.Core.Path.{subst, sym}
 use Rattle.blocking_pool.specs.declared.pool.answer.Refusal.TheVariants.{Memory}
 use Rattle.blocking_laws.specs.Seen.{events, own, cut, task_cut, acts_of_task, is_owner, is_some_worker, is_this, is_of_pool, is_nothing}
-use Rattle.blocking_laws.specs.Jobs.{tasks, holder}
+use Rattle.blocking_laws.specs.Jobs.{client_of_step, tasks, holder}
 use Rattle.blocking_laws.specs.Turns.{Turn, GoesOn, IsWaiting, MustGiveUp, HasGivenUp, turn, hand, is_giving_up, FitsTurn, FitsTurnOf, ActsInTurn, is_job_act, TurnLaw}
 use Rattle.blocking_laws.specs.TaskLaws.{TaskLaw}
 use Rattle.blocking_laws.specs.Sessions.{under_way, is_poll_over}
@@ -27,7 +27,7 @@ use Rattle.blocking_laws.proofs.Beginnings.{before, keeps, owner_keeps, task_kee
 use Rattle.blocking_laws.proofs.Queues.{same_self}
 use Rattle.blocking_theorems.proofs.OneAct.{one_poll, one_action}
 use Rattle.blocking_theorems.proofs.OneOwnerAct.{by_poll, polled, one_line, one_action as owners_action}
-use Rattle.blocking_theorems.proofs.OneAnswer.{wake_is, same_job, same_step, one_event}
+use Rattle.blocking_theorems.proofs.OneAnswer.{CountsNew, counts_pooled, wake_is, same_job, same_step, one_event}
 use Rattle.blocking_theorems.proofs.Holders.{each_task, has_hand, IsJobEvent, job_event, job_law, owner_job_law, MayHold, holder_in_hand}
 
 -- ---- the steps of tasks
@@ -145,34 +145,34 @@ begun cut (Refused why) law = tt
 begun cut _ law = law
 
 -- a session begins alike, by the pool's answer
-same_begin : (b : Bool) (setting : ℕ) (plan : List Bool) (past : List Moment) (now other : Moment) → is_out_of_memory now.event.act ≡ b → is_out_of_memory other.event.act ≡ b
+same_begin : (b : Bool) (setting : ℕ) (plan : List Bool) (past : List Moment) (now other : Moment) → CountsNew past → now.step ≡ other.step → is_out_of_memory now.event.act ≡ b → is_out_of_memory other.event.act ≡ b
     → IsBegun now.event.act → IsBegun other.event.act → PoolLaw setting plan past now → PoolLaw setting plan past other → now.event.act ≡ other.event.act
-same_begin true setting plan past now other memory other_memory kind other_kind law other_law =
+same_begin true setting plan past now other counts step memory other_memory kind other_kind law other_law =
     memory_is now.event.act memory ∙ sym (memory_is other.event.act other_memory)
-same_begin false setting plan past now other memory other_memory kind other_kind law other_law =
-    same_job setting plan past now other now.event.act other.event.act kind other_kind memory other_memory law.answers other_law.answers law.growth other_law.growth
+same_begin false setting plan past now other counts step memory other_memory kind other_kind law other_law =
+    same_job setting plan past now other now.event.act other.event.act counts (ap (client_of_step past) step) kind other_kind memory other_memory law.answers other_law.answers law.growth other_law.growth
 
 -- an action of a poll is one act: by the cut, or by the pool's answer
-by_action : (action : OwnerAction) (setting : ℕ) (plan : List Bool) (past : List Moment) (now other : Moment) (cut : List Event) → is_out_of_memory now.event.act ≡ is_out_of_memory other.event.act
+by_action : (action : OwnerAction) (setting : ℕ) (plan : List Bool) (past : List Moment) (now other : Moment) (cut : List Event) → CountsNew past → now.step ≡ other.step → is_out_of_memory now.event.act ≡ is_out_of_memory other.event.act
     → Polls cut action now.event.act → Polls cut action other.event.act → PoolLaw setting plan past now → PoolLaw setting plan past other → now.event.act ≡ other.event.act
-by_action Begin setting plan past now other cut memory act other_act law other_law =
-    same_begin (is_out_of_memory other.event.act) setting plan past now other memory refl (begun cut now.event.act act) (begun cut other.event.act other_act) law other_law
-by_action (WakeJob s) setting plan past now other cut memory act other_act law other_law =
+by_action Begin setting plan past now other cut counts step memory act other_act law other_law =
+    same_begin (is_out_of_memory other.event.act) setting plan past now other counts step memory refl (begun cut now.event.act act) (begun cut other.event.act other_act) law other_law
+by_action (WakeJob s) setting plan past now other cut counts step memory act other_act law other_law =
     wake_is setting past now s now.event.act act law.answers ∙ sym (wake_is setting past other s other.event.act other_act other_law.answers)
-by_action CloseOwn setting plan past now other cut memory act other_act law other_law = one_line cut CloseOwn now.event.act other.event.act refl act other_act
-by_action (Drain n) setting plan past now other cut memory act other_act law other_law = one_line cut (Drain n) now.event.act other.event.act refl act other_act
-by_action (Fill bytes) setting plan past now other cut memory act other_act law other_law = one_line cut (Fill bytes) now.event.act other.event.act refl act other_act
-by_action Receive setting plan past now other cut memory act other_act law other_law = one_line cut Receive now.event.act other.event.act refl act other_act
-by_action PollPlace setting plan past now other cut memory act other_act law other_law = one_line cut PollPlace now.event.act other.event.act refl act other_act
-by_action PollSlot setting plan past now other cut memory act other_act law other_law = one_line cut PollSlot now.event.act other.event.act refl act other_act
-by_action (Say reply) setting plan past now other cut memory act other_act law other_law = one_line cut (Say reply) now.event.act other.event.act refl act other_act
-by_action Rest setting plan past now other cut memory act other_act law other_law = absurd act
+by_action CloseOwn setting plan past now other cut counts step memory act other_act law other_law = one_line cut CloseOwn now.event.act other.event.act refl act other_act
+by_action (Drain n) setting plan past now other cut counts step memory act other_act law other_law = one_line cut (Drain n) now.event.act other.event.act refl act other_act
+by_action (Fill bytes) setting plan past now other cut counts step memory act other_act law other_law = one_line cut (Fill bytes) now.event.act other.event.act refl act other_act
+by_action Receive setting plan past now other cut counts step memory act other_act law other_law = one_line cut Receive now.event.act other.event.act refl act other_act
+by_action PollPlace setting plan past now other cut counts step memory act other_act law other_law = one_line cut PollPlace now.event.act other.event.act refl act other_act
+by_action PollSlot setting plan past now other cut counts step memory act other_act law other_law = one_line cut PollSlot now.event.act other.event.act refl act other_act
+by_action (Say reply) setting plan past now other cut counts step memory act other_act law other_law = one_line cut (Say reply) now.event.act other.event.act refl act other_act
+by_action Rest setting plan past now other cut counts step memory act other_act law other_law = absurd act
 
 same_owners_poll : (setting : ℕ) (plan : List Bool) (past : List Moment) (now other : Moment) (h : ℕ) → is_out_of_memory now.event.act ≡ is_out_of_memory other.event.act
     → Legal setting plan (now ∷ past) → Legal setting plan (other ∷ past) → has_action past (Own h) ≡ true → now.step ≡ Own h → other.step ≡ Own h
     → Happens true past (Own h) now.event.act → Happens true past (Own h) other.event.act → now.event.act ≡ other.event.act
 same_owners_poll setting plan past now other h memory legal other_legal has step other_step happens other_happens =
-    by_action (next_of_owner (cut h (events past))) setting plan past now other (cut h (events past)) memory
+    by_action (next_of_owner (cut h (events past))) setting plan past now other (cut h (events past)) (counts_pooled setting plan past legal.pool.1) (step ∙ sym other_step) memory
     (poll_gives setting plan past now h legal has step happens) (poll_gives setting plan past other h other_legal has other_step other_happens) legal.pool.0 other_legal.pool.0
 
 -- ---- every step
@@ -208,7 +208,7 @@ same_at_pool : (b : Bool) (setting : ℕ) (plan : List Bool) (past : List Moment
 same_at_pool true setting plan past now other step of_pool memory other_memory legal other_legal =
     same_step setting plan past now other step (memory_is now.event.act memory ∙ sym (memory_is other.event.act other_memory)) legal.steps.0 other_legal.steps.0 legal.pool.0 other_legal.pool.0
 same_at_pool false setting plan past now other step of_pool memory other_memory legal other_legal =
-    one_event setting plan past now other step of_pool memory other_memory legal.steps.0 other_legal.steps.0 legal.pool.0 other_legal.pool.0
+    one_event setting plan past now other (counts_pooled setting plan past legal.pool.1) step of_pool memory other_memory legal.steps.0 other_legal.steps.0 legal.pool.0 other_legal.pool.0
 
 one_by : (b : Bool) (setting : ℕ) (plan : List Bool) (past : List Moment) (now other : Moment) → is_pool_step now.step ≡ b → now.step ≡ other.step
     → is_out_of_memory now.event.act ≡ is_out_of_memory other.event.act → Legal setting plan (now ∷ past) → Legal setting plan (other ∷ past) → now.event ≡ other.event

@@ -13,15 +13,17 @@ ghost use Rattle.blocking_laws.specs.Traces.{one_queued, one_arrived, one_taken,
 ghost use Rattle.blocking_laws.specs.Traces.{dropped, dropped_running, dropped_given_up, dropped_over, two_queued, front_dropped, second_dropped, two_workers};
 ghost use Rattle.blocking_laws.specs.Traces.{one_waits, one_parked, woken_waits, dropped_waits, dropped_parked};
 ghost use Rattle.blocking_laws.specs.Traces.{two_parked, two_dropped, queued_again};
+ghost use Rattle.blocking_laws.specs.Traces.{three_queued, one_at_limit, none_ready, room_again};
 ghost use Rattle.blocking_laws.specs.declared.event.Moment.{Moment};
-ghost use Rattle.blocking_laws.specs.declared.event.Act.TheVariants.{Accepted, Refused, JobWoken, JobCancelled, LimitSet, Swept, TaskCancelled, HolderDropped, Arrived, Took, TookDropped, TookNone, Stays, Stopped, Ended, HandedOut, GaveUp};
+ghost use Rattle.blocking_laws.specs.declared.event.Act.TheVariants.{Accepted, Refused, JobWoken, JobCancelled, LimitSet, ClientLimitSet, Swept, TaskCancelled, HolderDropped, Arrived, Took, TookDropped, TookNone, Stays, Stopped, Ended, HandedOut, GaveUp};
 ghost use Rattle.blocking_laws.specs.declared.event.Party.TheVariants.{Task, Worker, Pool};
 ghost use Rattle.blocking_laws.specs.declared.event.HolderWaker.TheVariants.{Absent};
 ghost use Rattle.blocking_laws.specs.declared.event.WaitEnd.TheVariants.{Woken, TimedOut};
-ghost use Rattle.blocking_laws.specs.declared.step.Step.TheVariants.{Spawn, OfTask, Arrive, Take, Job, End, Wait, Late, SetLimit, Sweep, Stray, Strike};
+ghost use Rattle.blocking_laws.specs.declared.step.Step.TheVariants.{Spawn, OfTask, Arrive, Take, Job, End, Wait, Late, SetLimit, Sweep, Stray, Strike, SetClientLimit};
 ghost use Rattle.blocking_laws.specs.declared.step.TaskCall.TheVariants.{Cancel, Drop};
 
-/// A take gives the job at the front, to be dropped where it was let go; it finds none only where none is queued.
+/// A take gives the first ready job, to be dropped where it was let go; it finds none only where none is ready. Where no client limit is set
+/// that is the job at the front, and it finds none only where none is queued.
 pub fn takes()
     // accepted 1 +1 / arrived 1 / accepted 2 / took 1
     ensures accepts_front { Legal 1 [] (two_queued
@@ -60,7 +62,7 @@ pub fn takes()
         (moment (Take 1) (Worker 1) (Some 1) (TookDropped 1) 2) }
 {}
 
-/// Jobs are taken in the order in which they entered: the headline's own sentence, apart from what each take answers.
+/// Each client's jobs are taken in the order in which they entered: the headline's own sentence, apart from what each take answers.
 pub fn order()
     // accepted 1 +1 / arrived 1 / accepted 2 / took 1
     ensures accepts_front { InOrder (two_queued
@@ -71,6 +73,48 @@ pub fn order()
     // .. / accepted 2 / delivered 1 marked / parked / ended 1 queued / took 1
     ensures refuses_woken_job_first { Refuses (Keeps InOrder) queued_again
         (moment (Take 1) (Worker 1) (Some 1) (Took 1) 2) }
+    // clients 1 / accepted 1 +1 / accepted 2 / accepted 3 / arrived 1 / took 1 +2 / arrived 2 / took 3: job 3 is of another client
+    ensures accepts_other_client { InOrder (one_at_limit
+        ▸ moment (Take 2) (Worker 2) (Some 3) (Took 3) 3) }
+    // clients 1 / accepted 1 +1 / accepted 2 / accepted 3 / arrived 1 / took 2: job 1 is of the same client
+    ensures refuses_passing_over { Refuses (Keeps InOrder) three_queued
+        (moment (Take 1) (Worker 1) (Some 2) (Took 2) 2) }
+{}
+
+/// Where a client is at its limit, its jobs are passed by: a take gives the first job of another client, and no later one of the same; and
+/// it finds none where those alone are queued.
+pub fn clients()
+    // clients 1 / accepted 1 +1 / accepted 2 / accepted 3 / arrived 1 / took 1 +2 / arrived 2 / took 3: job 2 is of the client of job 1
+    ensures accepts_passing_by { Legal 4 [] (one_at_limit ▸ moment (Take 2) (Worker 2) (Some 3) (Took 3) 3) }
+    // .. / took 3 / .. / ended 3 done / idle / stays 2, timed out: a job is queued, and none is ready
+    ensures accepts_idle_beside_queued { Legal 4 [] (none_ready
+        ▸ moment (Take 2) (Worker 2) None TookNone 3
+        ▸ moment (Late 2) (Worker 2) None (Stays 2 TimedOut) 3) }
+    // .. / ended 3 done / clients 2 / took 2: a raised limit
+    ensures accepts_raised { Legal 4 [] (none_ready
+        ▸ moment (SetClientLimit (Some 2)) Pool None (ClientLimitSet (Some 2)) 3
+        ▸ moment (Take 2) (Worker 2) (Some 2) (Took 2) 3) }
+    // .. / ended 3 done / clients none / took 2: no limit is left
+    ensures accepts_unlimited { Legal 4 [] (none_ready
+        ▸ moment (SetClientLimit None) Pool None (ClientLimitSet None) 3
+        ▸ moment (Take 2) (Worker 2) (Some 2) (Took 2) 3) }
+    // .. / ended 3 done / .. / ended 1 done / took 2: its client has room again
+    ensures accepts_room_again { Legal 4 [] (room_again ▸ moment (Take 1) (Worker 1) (Some 2) (Took 2) 3) }
+    // clients 1 / accepted 1 +1 / accepted 2 / accepted 3 / arrived 1 / took 2
+    ensures refuses_passing_over { Refuses (AnswerLaw 4) three_queued (moment (Take 1) (Worker 1) (Some 2) (Took 2) 2) }
+    // .. / took 1 +2 / arrived 2 / idle
+    ensures refuses_idle_behind_limit { Refuses (AnswerLaw 4) one_at_limit (moment (Take 2) (Worker 2) None TookNone 3) }
+    // .. / took 1 +2 / arrived 2 / took 2
+    ensures refuses_take_at_limit { Refuses (AnswerLaw 4) one_at_limit (moment (Take 2) (Worker 2) (Some 2) (Took 2) 3) }
+    // .. / took 1 +2 / arrived 2 / dropped (of job 2) / took 2 dropped: a job that was let go waits for room too
+    ensures refuses_drop_at_limit { Refuses (AnswerLaw 4) (one_at_limit ▸ moment (OfTask 1 Drop) (Task 1) None HolderDropped 3)
+        (moment (Take 2) (Worker 2) (Some 2) (TookDropped 2) 3) }
+    // .. / took 3 / .. / ended 3 done / took 2
+    ensures refuses_take_of_unready { Refuses (AnswerLaw 4) none_ready (moment (Take 2) (Worker 2) (Some 2) (Took 2) 3) }
+    // .. / took 3 / .. / ended 3 done / stopped 2, timed out: a job is queued
+    ensures refuses_stop_beside_unready { Refuses (AnswerLaw 4) none_ready (moment (Late 2) (Worker 2) None (Stopped 2 TimedOut) 3) }
+    // .. / ended 1 done / idle: its client has room again
+    ensures refuses_idle_with_room { Refuses (AnswerLaw 4) room_again (moment (Take 1) (Worker 1) None TookNone 3) }
 {}
 
 /// A wake puts a parked job back and flags a running one as woken; any other it leaves as it is.
@@ -257,22 +301,22 @@ pub fn numbers()
     ensures accepts_in_order { Legal 1 [] two_queued }
     // .. / ended 1 done / accepted 1
     ensures refuses_serial_of_done_job { Refuses (AnswerLaw 1) one_done
-        (moment Spawn Pool None (Accepted 1) 2) }
+        (moment (Spawn 0) Pool None (Accepted 1) 2) }
     // accepted 1 +1 / arrived 1 / accepted 3
     ensures refuses_serial_left_out { Refuses (AnswerLaw 1) one_arrived
-        (moment Spawn Pool None (Accepted 3) 2) }
+        (moment (Spawn 0) Pool None (Accepted 3) 2) }
     // accepted 1 +1 / arrived 1 / refused numbers
     ensures refuses_early_end_of_numbers { Refuses (AnswerLaw 1) one_arrived
-        (moment Spawn Pool None (Refused Numbers) 2) }
+        (moment (Spawn 0) Pool None (Refused Numbers) 2) }
     // refused memory
-    ensures accepts_want_of_memory { Legal 1 [] ([] ▸ moment Spawn Pool None (Refused Memory) 1) }
+    ensures accepts_want_of_memory { Legal 1 [] ([] ▸ moment (Spawn 0) Pool None (Refused Memory) 1) }
     // where the greatest number would be next no short trace ends: refused numbers, and not refused memory
     ensures accepts_end_of_numbers { (past : List Moment) →
         1 + length (accepted_jobs past) ≡ greatest →
-        AnswerLaw 1 past (moment Spawn Pool None (Refused Numbers) 2) }
+        AnswerLaw 1 past (moment (Spawn 0) Pool None (Refused Numbers) 2) }
     ensures refuses_memory_at_end_of_numbers { (past : List Moment) →
         1 + length (accepted_jobs past) ≡ greatest →
-        Refuses (AnswerLaw 1) past (moment Spawn Pool None (Refused Memory) 2) }
+        Refuses (AnswerLaw 1) past (moment (Spawn 0) Pool None (Refused Memory) 2) }
     // accepted 1 +1 / arrived 2
     ensures refuses_worker_left_out { Refuses (AnswerLaw 1) one_queued
         (moment Arrive (Worker 2) None (Arrived 2) 2) }

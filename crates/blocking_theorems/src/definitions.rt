@@ -3,21 +3,23 @@ ghost use Rattle.std.specs.Prelude.{◌≡◌, [], ◌∷◌, Some, None, true, 
 ghost use Rattle.blocking_pool.specs.declared.pool.answer.Refusal.TheVariants.{Memory};
 ghost use Rattle.blocking_pool.specs.declared.pool.answer.Woke.TheVariants.{Entered, Marked, Nothing};
 ghost use Rattle.blocking_pool.specs.declared.pool.standing.Standing.TheVariants.{Queued, Running, Parked, Done, Dropped};
-ghost use Rattle.blocking_laws.specs.Core.{is_due, limit_after, wake_of, cancel_of};
+ghost use Rattle.blocking_laws.specs.Core.{is_due, limit_after, wake_of, cancel_of, is_below};
 ghost use Rattle.blocking_laws.specs.Seen.{events, task_cut};
 ghost use Rattle.blocking_laws.specs.Seats.{task_seat};
-ghost use Rattle.blocking_laws.specs.Jobs.{standing, tasks, holder, is_woken, is_cancelled, is_marked, has_ended};
-ghost use Rattle.blocking_laws.specs.Queue.{entries, takes, queue, running};
+ghost use Rattle.blocking_laws.specs.Jobs.{standing, tasks, holder, client_of_owner, client, is_woken, is_cancelled, is_marked, has_ended};
+ghost use Rattle.blocking_laws.specs.Queue.{entries, takes, queue, running, client_limit, of_client, has_room, ready};
 ghost use Rattle.blocking_laws.specs.Counts.{workers, idle, limit};
 ghost use Rattle.blocking_laws.specs.Growth.{known_limit};
 ghost use Rattle.blocking_laws.specs.Traces.{◌▸◌, moment};
 ghost use Rattle.blocking_laws.specs.Traces.{one_queued, one_arrived, one_taken, one_answered, one_done, two_workers, two_queued, late_queued};
 ghost use Rattle.blocking_laws.specs.Traces.{awaited, awaited_finished, cancelled_given_up, detached, dropped, dropped_over, start_refused, second_refused};
 ghost use Rattle.blocking_laws.specs.Traces.{one_parked, woken_waits, dropped_parked, two_dropped, front_dropped, second_dropped, queued_again};
-ghost use Rattle.blocking_laws.specs.declared.event.Act.TheVariants.{Accepted, Refused, JobWoken, JobCancelled, LimitSet, Swept, TaskCancelled, HolderDropped, Took, TookDropped, Stopped, Ended, NoAction};
+ghost use Rattle.blocking_laws.specs.Traces.{three_queued, one_at_limit, none_ready, room_again};
+ghost use Rattle.blocking_laws.specs.OwnerTraces.{begun_for_client};
+ghost use Rattle.blocking_laws.specs.declared.event.Act.TheVariants.{Accepted, Refused, JobWoken, JobCancelled, LimitSet, ClientLimitSet, Swept, TaskCancelled, HolderDropped, Took, TookDropped, Stopped, Ended, NoAction};
 ghost use Rattle.blocking_laws.specs.declared.event.Party.TheVariants.{Task, Worker, Pool};
 ghost use Rattle.blocking_laws.specs.declared.event.WaitEnd.TheVariants.{Woken, TimedOut};
-ghost use Rattle.blocking_laws.specs.declared.step.Step.TheVariants.{Spawn, OfTask, Arrive, Take, Job, End, Wait, Late, SetLimit, Sweep, Stray, Strike};
+ghost use Rattle.blocking_laws.specs.declared.step.Step.TheVariants.{Spawn, OfTask, Arrive, Take, Job, End, Wait, Late, SetLimit, Sweep, Stray, Strike, SetClientLimit};
 ghost use Rattle.blocking_laws.specs.declared.step.TaskCall.TheVariants.{Cancel, Drop};
 
 /// The words that the laws take from the pool: what a wake and a cancel do, when a start is due, and the limit that one leaves.
@@ -163,6 +165,42 @@ pub fn queues()
     // .. / ended 1 parked / dropped / stopped 1, timed out: such a wait sweeps
     ensures swept_late { queue (dropped_parked
         ▸ moment (Late 1) (Worker 1) None (Stopped 1 TimedOut) 2) ≡ 1 ∷ [] }
+{}
+
+/// Of which client a job is, the client limit, and which queued jobs are ready.
+pub fn clients()
+    // accepted 1 +1: of a step that names none
+    ensures nobodys { client one_queued 1 ≡ 0 }
+    // clients 1 / accepted 1 +1 / accepted 2 / accepted 3 / arrived 1
+    ensures of_call { client three_queued 2 ≡ 7 }
+    ensures of_other_call { client three_queued 3 ≡ 8 }
+    // made 0 / made 1 / asked / accepted 1 +1: of a session it is that of its owner
+    ensures of_owner { client_of_owner begun_for_client 0 ≡ 7 }
+    ensures of_other_owner { client_of_owner begun_for_client 1 ≡ 8 }
+    ensures of_session { client begun_for_client 1 ≡ 7 }
+    // the client limit: before any step, and as it was set, raised and taken away
+    ensures no_limit { client_limit [] ≡ None }
+    ensures limited { client_limit none_ready ≡ Some 1 }
+    ensures raised { client_limit (none_ready ▸ moment (SetClientLimit (Some 2)) Pool None (ClientLimitSet (Some 2)) 3) ≡ Some 2 }
+    ensures taken_away { client_limit (none_ready ▸ moment (SetClientLimit None) Pool None (ClientLimitSet None) 3) ≡ None }
+    // the limit of workers is another one
+    ensures limited_alone { client_limit (none_ready ▸ moment (SetLimit 2) Pool None (LimitSet 2) 3) ≡ Some 1 }
+    // a number at its limit isn't below it, and where there is no limit each is
+    ensures below { is_below (Some 2) 1 ≡ true }
+    ensures not_below { is_below (Some 2) 2 ≡ false }
+    ensures below_none { is_below None 2 ≡ true }
+    // .. / took 1 +2 / arrived 2: client 7 has a job that runs
+    ensures part { of_client one_at_limit 7 (entries one_at_limit) ≡ 1 ∷ 2 ∷ [] }
+    ensures at_limit { has_room one_at_limit 7 ≡ false }
+    ensures with_room { has_room one_at_limit 8 ≡ true }
+    // before and after that take, and once the limit is raised or taken away
+    ensures all_ready { ready three_queued ≡ 1 ∷ 2 ∷ 3 ∷ [] }
+    ensures other_ready { ready one_at_limit ≡ 3 ∷ [] }
+    ensures none_is_ready { ready none_ready ≡ [] }
+    ensures queued { queue none_ready ≡ 2 ∷ [] }
+    ensures ready_again { ready room_again ≡ 2 ∷ [] }
+    ensures ready_by_raising { ready (none_ready ▸ moment (SetClientLimit (Some 2)) Pool None (ClientLimitSet (Some 2)) 3) ≡ 2 ∷ [] }
+    ensures ready_without_limit { ready (none_ready ▸ moment (SetClientLimit None) Pool None (ClientLimitSet None) 3) ≡ 2 ∷ [] }
 {}
 
 /// The counts of workers, and the limit.

@@ -7,16 +7,16 @@ ghost use Rattle.blocking_laws.specs.Traces.{◌▸◌, moment, starting, of_own
 ghost use Rattle.blocking_laws.specs.Traces.{one_queued, one_arrived, one_taken, one_answered, one_finished, one_done};
 ghost use Rattle.blocking_laws.specs.Traces.{one_got, awaited, detached, dropped, cancelled_finished, cancelled_given_up};
 ghost use Rattle.blocking_laws.specs.Traces.{second_dropped, start_refused, late_queued};
-ghost use Rattle.blocking_laws.specs.declared.event.Act.TheVariants.{Accepted, JobWoken, JobCancelled, LimitSet, Swept, Waits, TaskGotNone, TaskCancelled, TaskDetached, HolderDropped, Arrived, Took, TookNone, Stays, Stopped, Answered, Finished, NoAction};
+ghost use Rattle.blocking_laws.specs.declared.event.Act.TheVariants.{Accepted, JobWoken, JobCancelled, LimitSet, ClientLimitSet, Swept, Waits, TaskGotNone, TaskCancelled, TaskDetached, HolderDropped, Arrived, Took, TookNone, Stays, Stopped, Answered, Finished, NoAction};
 ghost use Rattle.blocking_laws.specs.declared.event.Party.TheVariants.{Task, Worker, Pool};
 ghost use Rattle.blocking_laws.specs.declared.event.HolderWaker.TheVariants.{Absent};
 ghost use Rattle.blocking_laws.specs.declared.event.WaitEnd.TheVariants.{Woken, TimedOut};
 ghost use Rattle.blocking_laws.specs.declared.step.Answer.TheVariants.{Number};
-ghost use Rattle.blocking_laws.specs.declared.step.Step.TheVariants.{Spawn, OfTask, Arrive, Take, Job, Io, End, Wait, Late, SetLimit, Sweep, Stray, Strike};
+ghost use Rattle.blocking_laws.specs.declared.step.Step.TheVariants.{Spawn, OfTask, Arrive, Take, Job, Io, End, Wait, Late, SetLimit, Sweep, Stray, Strike, SetClientLimit};
 ghost use Rattle.blocking_laws.specs.declared.step.TaskCall.TheVariants.{Poll, Cancel, Detach, Drop};
 
 /// Nothing is done at the pool exactly where nobody is left to arrive, a job was never accepted or may not be cancelled, or the
-/// limit would be 0; a new job and a sweep always have an action.
+/// limit, of workers or of each client's jobs, would be 0; a new job, a sweep and taking the client limit away always have an action.
 pub fn nothing_at_the_pool()
     // nothing (nothing was started)
     ensures accepts_no_start { Legal 1 [] ([] ▸ moment Arrive Pool None NoAction 1) }
@@ -24,12 +24,16 @@ pub fn nothing_at_the_pool()
     ensures accepts_no_job { Legal 1 [] ([] ▸ moment (Stray 1) Pool None NoAction 1) }
     // nothing (a limit is above 0)
     ensures accepts_no_limit { Legal 1 [] ([] ▸ moment (SetLimit 0) Pool None NoAction 1) }
+    // nothing (a client limit is above 0)
+    ensures accepts_no_client_limit { Legal 1 [] ([] ▸ moment (SetClientLimit (Some 0)) Pool None NoAction 1) }
     // accepted 1 +1 / arrived 1 / nothing (nobody let the job go)
     ensures accepts_no_cancel { Legal 1 [] (one_arrived ▸ moment (Strike 1) Pool None NoAction 2) }
     // where there is an action
-    ensures refuses_no_new_job { Refuses StepLaw [] (moment Spawn Pool None NoAction 1) }
+    ensures refuses_no_new_job { Refuses StepLaw [] (moment (Spawn 0) Pool None NoAction 1) }
     ensures refuses_no_sweep { Refuses StepLaw [] (moment Sweep Pool None NoAction 1) }
     ensures refuses_no_limit { Refuses StepLaw [] (moment (SetLimit 1) Pool None NoAction 1) }
+    ensures refuses_no_client_limit { Refuses StepLaw [] (moment (SetClientLimit (Some 1)) Pool None NoAction 1) }
+    ensures refuses_limit_left { Refuses StepLaw [] (moment (SetClientLimit None) Pool None NoAction 1) }
     ensures refuses_no_arrival { Refuses StepLaw one_queued (moment Arrive Pool None NoAction 2) }
     ensures refuses_no_wake { Refuses StepLaw one_arrived
         (moment (Stray 1) Pool None NoAction 2) }
@@ -39,6 +43,8 @@ pub fn nothing_at_the_pool()
         (moment Arrive (Worker 1) None (Arrived 1) 1) }
     ensures refuses_limit_of_zero { Refuses StepLaw []
         (moment (SetLimit 0) Pool None (LimitSet 0) 1) }
+    ensures refuses_client_limit_of_zero { Refuses StepLaw []
+        (moment (SetClientLimit (Some 0)) Pool None (ClientLimitSet (Some 0)) 1) }
     ensures refuses_wake_of_no_job { Refuses StepLaw []
         (moment (Stray 1) Pool None (JobWoken 1 Nothing) 1) }
     ensures refuses_cancel_of_held_job { Refuses StepLaw one_arrived
@@ -83,7 +89,7 @@ pub fn numbers_of_tasks()
         ▸ moment (OfTask 1 Poll) (Task 1) None NoAction 2) }
     // refused worker -1 / accepted 1 +2 / waits: a refused job brings no task
     ensures accepts_task_after_refused_job { Legal 1 (true ∷ []) (start_refused
-        ▸ starting 1 (moment Spawn Pool None (Accepted 1) 2)
+        ▸ starting 1 (moment (Spawn 0) Pool None (Accepted 1) 2)
         ▸ moment (OfTask 0 Poll) (Task 0) None Waits 3) }
     // limit 2 / refused memory / swept 0 / accepted 1 +1 / nothing, of task 0
     ensures refuses_task_left_out { Refuses StepLaw late_queued
@@ -177,6 +183,15 @@ pub fn events()
     // accepted 1 +1 / arrived 1 / took 1 / answered 5, where 6 was answered
     ensures refuses_other_answer { Refuses StepLaw one_taken
         (moment (Io 1 (Number 6)) (Worker 1) (Some 1) (Answered (Number 5)) 2) }
+    // clients 2 / clients none
+    ensures accepts_client_limits { Legal 1 [] ([]
+        ▸ moment (SetClientLimit (Some 2)) Pool None (ClientLimitSet (Some 2)) 1
+        ▸ moment (SetClientLimit None) Pool None (ClientLimitSet None) 1) }
+    // clients 2, of a limit 1, and of none
+    ensures refuses_other_client_limit { Refuses StepLaw []
+        (moment (SetClientLimit (Some 1)) Pool None (ClientLimitSet (Some 2)) 1) }
+    ensures refuses_limit_for_none { Refuses StepLaw []
+        (moment (SetClientLimit None) Pool None (ClientLimitSet (Some 2)) 1) }
     // accepted 1 +1 / arrived 1 / stays 1, of a take
     ensures refuses_other_kind { Refuses StepLaw one_arrived
         (moment (Take 1) (Worker 1) None (Stays 1 Woken) 2) }

@@ -91,7 +91,7 @@ pub fn polls_with_answer()
         (moment (OfTask 0 Poll) (Task 0) None (TaskGot 6) 2) }
     // .. / answered 5 / finished / accepted 2 / got 5, by the task of job 2
     ensures refuses_answer_of_other_task { Refuses (LawOfTask 1 2) (one_finished
-        ▸ moment Spawn Pool None (Accepted 2) 2)
+        ▸ moment (Spawn 0) Pool None (Accepted 2) 2)
         (moment (OfTask 1 Poll) (Task 1) None (TaskGot 5) 2) }
     // .. / answered 5 / got 5: it isn't put yet
     ensures refuses_early_answer { Refuses FirstTaskLaw one_answered
@@ -108,7 +108,7 @@ pub fn polls_without_answer()
         ▸ moment (OfTask 0 Poll) (Task 0) None Waits 2) }
     // .. / finished / accepted 2 / waits, by the task of job 2
     ensures accepts_wait_of_other_task { Legal 1 [] (one_finished
-        ▸ moment Spawn Pool None (Accepted 2) 2
+        ▸ moment (Spawn 0) Pool None (Accepted 2) 2
         ▸ moment (OfTask 1 Poll) (Task 1) None Waits 2) }
     // .. / answered 5 / finished / got none
     ensures refuses_lost_answer { Refuses FirstTaskLaw one_finished

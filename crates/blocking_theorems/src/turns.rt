@@ -131,7 +131,7 @@ pub fn staffing()
     // .. / ended 1 done / stopped 1 / accepted 2 +2: the next worker hasn't arrived
     ensures accepts_unarrived_after_stop { IsStaffed 0 0 (one_done
         ▸ moment (Late 1) (Worker 1) None (Stopped 1 TimedOut) 2
-        ▸ starting 1 (moment Spawn Pool None (Accepted 2) 2)) }
+        ▸ starting 1 (moment (Spawn 0) Pool None (Accepted 2) 2)) }
     // accepted 1 +1 / arrived 1 / accepted 2 / took 1 +2 / arrived 2: a turn and a pass
     ensures accepts_both { IsStaffed 1 1 two_workers }
     // the same, where the other worker hasn't arrived or holds no pass; and the other way round
@@ -141,7 +141,7 @@ pub fn staffing()
     ensures refuses_two_turns { IsStaffed 0 2 two_workers → ⊥ }
     // accepted 1 +1, with a pass: the worker hasn't arrived
     ensures refuses_pass_before_arrival { Refuses (Keeps (IsStaffed 1 0)) []
-        (starting 1 (moment Spawn Pool None (Accepted 1) 1)) }
+        (starting 1 (moment (Spawn 0) Pool None (Accepted 1) 1)) }
     // accepted 1 +1 / arrived 1, with no pass
     ensures refuses_arrival_without_pass { Refuses (Keeps (IsStaffed 0 0)) one_queued
         (moment Arrive (Worker 1) None (Arrived 1) 2) }

@@ -2,7 +2,7 @@
 ghost use Rattle.std.specs.Prelude.{◌≡◌, ◌||◌, ℕ, List, Bool, [], ◌∷◌, Some, None, true, false};
 ghost use Rattle.blocking_laws.specs.Seen.{is_by_task, is_of_job, is_in_cut};
 ghost use Rattle.blocking_laws.specs.Jobs.{holder};
-ghost use Rattle.blocking_laws.specs.Queue.{InOrder};
+ghost use Rattle.blocking_laws.specs.Queue.{InOrder, client_limit};
 ghost use Rattle.blocking_laws.specs.Growth.{GrowthLaw};
 ghost use Rattle.blocking_laws.specs.Turns.{TurnLaw};
 ghost use Rattle.blocking_laws.specs.Answers.{AnswerLaw};
@@ -12,7 +12,7 @@ ghost use Rattle.blocking_laws.specs.Served.{IsServed};
 ghost use Rattle.blocking_laws.specs.Staffed.{IsStaffedAsSeen};
 ghost use Rattle.blocking_laws.specs.Steps.{StepLaw, is_pool_step, is_out_of_memory};
 ghost use Rattle.blocking_laws.specs.Legal.{Legal, PoolLaw};
-ghost use Rattle.blocking_laws.specs.Traces.{◌▸◌, moment, starting, Refuses, Keeps, LawOfTask, start_refused};
+ghost use Rattle.blocking_laws.specs.Traces.{◌▸◌, moment, starting, Refuses, Keeps, IsPooled, LawOfTask, start_refused, room_again};
 ghost use Rattle.blocking_laws.specs.OwnerTraces.{LawOfOwner, EndsOfOwner, OwnerPasses};
 ghost use Rattle.blocking_laws.specs.declared.event.Moment.{Moment};
 ghost use Rattle.blocking_laws.specs.declared.event.Act.TheVariants.{Accepted, TaskGot, Arrived, Took, Stopped, Ended, Answered, Finished, NoAction};
@@ -32,8 +32,17 @@ pub fn one_event()
         now.step ≡ other.step → is_out_of_memory now.event.act ≡ is_out_of_memory other.event.act →
         Legal setting plan (past ▸ now) → Legal setting plan (past ▸ other) →
         now.event ≡ other.event }
-    // at the pool after any past, by the laws of steps and of the pool alone
+    // at the pool, by the laws of steps and of the pool alone
     ensures at_pool { (setting : ℕ) (plan : List Bool) (past : List Moment) (now other : Moment) →
+        IsPooled setting plan past →
+        now.step ≡ other.step → is_pool_step now.step ≡ true →
+        is_out_of_memory now.event.act ≡ false → is_out_of_memory other.event.act ≡ false →
+        StepLaw past now → StepLaw past other →
+        PoolLaw setting plan past now → PoolLaw setting plan past other →
+        now.event ≡ other.event }
+    // and where no client limit is set so it is after any past
+    ensures at_unlimited_pool { (setting : ℕ) (plan : List Bool) (past : List Moment) (now other : Moment) →
+        client_limit past ≡ None →
         now.step ≡ other.step → is_pool_step now.step ≡ true →
         is_out_of_memory now.event.act ≡ false → is_out_of_memory other.event.act ≡ false →
         StepLaw past now → StepLaw past other →
@@ -84,7 +93,7 @@ pub fn refusals()
 pub fn calls()
     // accepted 1 +1 / arrived 1 / took 1 / answered 5 / finished / ended 1 done / got 5 / stopped 1
     ensures accepts_call { Legal 4 [] ([]
-        ▸ starting 1 (moment Spawn Pool None (Accepted 1) 1)
+        ▸ starting 1 (moment (Spawn 0) Pool None (Accepted 1) 1)
         ▸ moment Arrive (Worker 1) None (Arrived 1) 2
         ▸ moment (Take 1) (Worker 1) (Some 1) (Took 1) 2
         ▸ moment (Io 1 (Number 5)) (Worker 1) (Some 1) (Answered (Number 5)) 2
@@ -95,7 +104,7 @@ pub fn calls()
     // refused worker -1 / accepted 1 +2 / arrived 1 / took 1 / answered 5 / finished / ended 1 done / got 5 / nothing /
     // stopped 1
     ensures accepts_call_after_refused_start { Legal 500 (true ∷ []) (start_refused
-        ▸ starting 1 (moment Spawn Pool None (Accepted 1) 2)
+        ▸ starting 1 (moment (Spawn 0) Pool None (Accepted 1) 2)
         ▸ moment Arrive (Worker 1) None (Arrived 1) 3
         ▸ moment (Take 1) (Worker 1) (Some 1) (Took 1) 3
         ▸ moment (Io 1 (Number 5)) (Worker 1) (Some 1) (Answered (Number 5)) 3
@@ -104,4 +113,7 @@ pub fn calls()
         ▸ moment (OfTask 0 Poll) (Task 0) None (TaskGot 5) 3
         ▸ moment (Take 2) (Worker 2) None NoAction 3
         ▸ moment (Late 1) (Worker 1) None (Stopped 1 TimedOut) 3) }
+    // clients 1 / accepted 1 +1 / accepted 2 / accepted 3 / arrived 1 / took 1 +2 / arrived 2 / took 3 / .. / ended 3 done / .. /
+    // ended 1 done / took 2: jobs 1 and 2 are of one client, job 3 of another
+    ensures accepts_calls_of_clients { Legal 4 [] (room_again ▸ moment (Take 1) (Worker 1) (Some 2) (Took 2) 3) }
 {}

@@ -5,8 +5,8 @@ ghost use Rattle.blocking_pool.specs.declared.pool.answer.Refusal.TheVariants.{M
 ghost use Rattle.blocking_pool.specs.declared.pool.answer.Woke.TheVariants.{Entered, Marked};
 ghost use Rattle.blocking_pool.specs.declared.pool.standing.Standing.TheVariants.{Queued, Parked, Dropped};
 ghost use Rattle.blocking_laws.specs.Seen.{events, task_cut};
-ghost use Rattle.blocking_laws.specs.Queue.{InOrder};
-ghost use Rattle.blocking_laws.specs.Growth.{GrowthLaw, known_limit};
+ghost use Rattle.blocking_laws.specs.Queue.{InOrder, client_limit, ready};
+ghost use Rattle.blocking_laws.specs.Growth.{GrowthLaw, known_limit, turned_away};
 ghost use Rattle.blocking_laws.specs.Served.{IsServed};
 ghost use Rattle.blocking_laws.specs.Turns.{TurnLaw};
 ghost use Rattle.blocking_laws.specs.Answers.{AnswerLaw};
@@ -17,22 +17,23 @@ ghost use Rattle.blocking_laws.specs.Legal.{Legal};
 ghost use Rattle.blocking_laws.specs.Traces.{◌▸◌, moment, starting, refusing, of_owner, Refuses, Keeps, FirstTaskLaw};
 ghost use Rattle.blocking_laws.specs.Traces.{one_queued, one_arrived, two_queued, dropped, second_dropped, late_queued, second_refused};
 ghost use Rattle.blocking_laws.specs.Traces.{awaited, awaited_finished, cancelled_finished, untold_given_up};
+ghost use Rattle.blocking_laws.specs.Traces.{three_queued, one_at_limit, none_ready};
 ghost use Rattle.blocking_laws.specs.Traces.{one_waits, one_parked, woken_waits, raised_limit, unstaffed_parked};
-ghost use Rattle.blocking_laws.specs.declared.event.Act.TheVariants.{Accepted, Refused, JobWoken, JobCancelled, LimitSet, Swept, Waits, TaskGot, TaskDetached, Arrived, Took, TookDropped, Stopped, Ended, Finished, NoAction};
+ghost use Rattle.blocking_laws.specs.declared.event.Act.TheVariants.{Accepted, Refused, JobWoken, JobCancelled, LimitSet, ClientLimitSet, Swept, Waits, TaskGot, TaskDetached, Arrived, Took, TookDropped, TookNone, Stopped, Ended, Finished, NoAction};
 ghost use Rattle.blocking_laws.specs.declared.event.Party.TheVariants.{Owner, Task, Worker, Pool};
 ghost use Rattle.blocking_laws.specs.declared.event.HolderWaker.TheVariants.{Absent};
 ghost use Rattle.blocking_laws.specs.declared.event.WaitEnd.TheVariants.{TimedOut};
-ghost use Rattle.blocking_laws.specs.declared.step.Step.TheVariants.{New, Spawn, OfTask, Arrive, Take, Job, End, Late, SetLimit, Sweep, Stray, Strike};
+ghost use Rattle.blocking_laws.specs.declared.step.Step.TheVariants.{New, Spawn, OfTask, Arrive, Take, Job, End, Late, SetLimit, Sweep, Stray, Strike, SetClientLimit};
 ghost use Rattle.blocking_laws.specs.declared.step.TaskCall.TheVariants.{Poll, Cancel};
 ghost use Rattle.std.specs.Prelude.{◌∷◌, true};
 ghost use Rattle.blocking_laws.specs.Seen.{cut};
 ghost use Rattle.blocking_laws.specs.Passed.{inside};
-ghost use Rattle.blocking_laws.specs.Jobs.{is_marked};
+ghost use Rattle.blocking_laws.specs.Jobs.{client, is_marked};
 ghost use Rattle.blocking_laws.specs.OwnerWakes.{NoLostOwnerWake};
 ghost use Rattle.blocking_laws.specs.OwnerTable.{next_of_owner, Say};
 ghost use Rattle.blocking_laws.specs.OwnerTraces.{asks, polls, takes, works, given, ends, FirstOwnerLaw, FirstOwnerEnds};
 ghost use Rattle.blocking_laws.specs.OwnerTraces.{reader_waits, room_found, four_given, reader_parked, two_got, two_told, end_given};
-ghost use Rattle.blocking_laws.specs.OwnerTraces.{told_before, reader_back, reader_dropped};
+ghost use Rattle.blocking_laws.specs.OwnerTraces.{begun_for_client, told_before, reader_back, reader_dropped};
 ghost use Rattle.blocking_laws.specs.declared.event.Act.TheVariants.{Got, Replied, RoomFree, GaveUp};
 ghost use Rattle.blocking_laws.specs.declared.event.Reply.TheVariants.{Okay, Count};
 ghost use Rattle.blocking_laws.specs.declared.step.Answer.TheVariants.{Number, Gave};
@@ -63,11 +64,11 @@ ghost use Rattle.blocking_laws.specs.OwnerTraces.{stop_back};
 ghost use Rattle.blocking_laws.specs.declared.step.HandleCall.TheVariants.{Close, Next, Seek, Operate, OperateAgain, IntoInner};
 ghost use Rattle.blocking_core.specs.declared.io.Fault.TheVariants.{Refused as FaultRefused};
 
-/// What the pool answers: with the next serial, with the front job and only as it was let go, by how a job stands.
+/// What the pool answers: with the next serial, with the first ready job and only as it was let go, by how a job stands.
 pub fn answers()
     // accepted 1 +1 / arrived 1 / accepted 1
     ensures refuses_serial_again { Refuses (AnswerLaw 1) one_arrived
-        (moment Spawn Pool None (Accepted 1) 2) }
+        (moment (Spawn 0) Pool None (Accepted 1) 2) }
     // accepted 1 +1 / dropped / arrived 1 / took 1
     ensures refuses_run_of_dropped { Refuses (AnswerLaw 1) dropped
         (moment (Take 1) (Worker 1) (Some 1) (Took 1) 2) }
@@ -89,11 +90,46 @@ pub fn answers()
         (moment (Late 1) (Worker 1) None (Stopped 1 TimedOut) 2) }
 {}
 
-/// Jobs are taken in the order in which they entered.
+/// Each client's jobs are taken in the order in which they entered.
 pub fn order()
     // accepted 1 +1 / arrived 1 / accepted 2 / took 2
     ensures refuses_queue_jumper { Refuses (Keeps InOrder) two_queued
         (moment (Take 1) (Worker 1) (Some 2) (Took 2) 2) }
+    // clients 1 / accepted 1 +1 / accepted 2 / accepted 3 / arrived 1 / took 2: a job of the same client is passed over
+    ensures refuses_passing_over { Refuses (Keeps InOrder) three_queued
+        (moment (Take 1) (Worker 1) (Some 2) (Took 2) 2) }
+{}
+
+/// Of which client a job is, which queued jobs are ready, and what a take, a growth and a step do where a client is at its limit.
+pub fn clients()
+    // clients 1 / accepted 1 +1 / accepted 2 / accepted 3 / arrived 1 / took 1 +2 / arrived 2: job 2 is of the client of job 1, job 3 isn't
+    ensures third_is_ready { ready one_at_limit ≡ 3 ∷ [] }
+    ensures client_of_call { client one_at_limit 3 ≡ 8 }
+    // made 0 / made 1 / asked / accepted 1 +1
+    ensures client_of_session { client begun_for_client 1 ≡ 7 }
+    // .. / clients none: no limit is left
+    ensures taken_away { client_limit (one_at_limit ▸ moment (SetClientLimit None) Pool None (ClientLimitSet None) 3) ≡ None }
+    // .. / clients 2 / accepted 4: the new job is of the client that its step names
+    ensures raised { ready (one_at_limit
+        ▸ moment (SetClientLimit (Some 2)) Pool None (ClientLimitSet (Some 2)) 3
+        ▸ moment (Spawn 8) Pool None (Accepted 4) 3) ≡ 2 ∷ 3 ∷ 4 ∷ [] }
+    // .. / took 1 +2 / arrived 2 / idle: the front job isn't ready, but another is
+    ensures refuses_idle_beside_ready { Refuses (AnswerLaw 4) one_at_limit (moment (Take 2) (Worker 2) None TookNone 3) }
+    // .. / took 1 +2 / arrived 2 / took 2: the client of the front job is at its limit
+    ensures refuses_take_at_limit { Refuses (AnswerLaw 4) one_at_limit (moment (Take 2) (Worker 2) (Some 2) (Took 2) 3) }
+    // .. / took 1 +2 / arrived 2 / took 3 +3: no job is ready then
+    ensures refuses_start_for_unready { Refuses (GrowthLaw 4 []) one_at_limit (starting 1 (moment (Take 2) (Worker 2) (Some 3) (Took 3) 3)) }
+    // a refused job counts where its client has room
+    ensures turned_away_at_limit { turned_away one_at_limit (moment (Spawn 7) Pool None (Refused NoWorker) 3) (Refused NoWorker) ≡ 0 }
+    ensures turned_away_with_room { turned_away one_at_limit (moment (Spawn 8) Pool None (Refused NoWorker) 3) (Refused NoWorker) ≡ 1 }
+    // .. / took 3 / .. / ended 3 done / stopped 2, timed out: a job is queued
+    ensures refuses_stop_beside_unready { Refuses (AnswerLaw 4) none_ready (moment (Late 2) (Worker 2) None (Stopped 2 TimedOut) 3) }
+    // clients 0
+    ensures refuses_limit_of_none { Refuses StepLaw [] (moment (SetClientLimit (Some 0)) Pool None (ClientLimitSet (Some 0)) 1) }
+    // nothing, where a client limit may always be taken away
+    ensures refuses_limit_left { Refuses StepLaw [] (moment (SetClientLimit None) Pool None NoAction 1) }
+    // clients none, of a limit 1
+    ensures refuses_other_limit { Refuses StepLaw [] (moment (SetClientLimit (Some 1)) Pool None (ClientLimitSet None) 1) }
 {}
 
 /// Which starts there are, and the limit as it is told.
@@ -109,7 +145,7 @@ pub fn growth()
         (starting 1 (moment (End 1) (Worker 1) (Some 1) (Ended 1 Queued) 2)) }
     // accepted 1 +1 / refused worker
     ensures refuses_refusal_beside_worker { Refuses (GrowthLaw 1 []) one_queued
-        (moment Spawn Pool None (Refused NoWorker) 2) }
+        (moment (Spawn 0) Pool None (Refused NoWorker) 2) }
     // .. / stopped 1 / delivered 1 entered -2 / nothing
     ensures accepts_refused_start { IsServed (unstaffed_parked
         ▸ refusing (moment (Stray 1) Pool None (JobWoken 1 Entered) 2)
@@ -117,7 +153,7 @@ pub fn growth()
     // swept 0 / refused memory / nothing: none of them is a growth
     ensures limit_is_untold { known_limit 4 ([]
         ▸ moment Sweep Pool None (Swept 0) 1
-        ▸ moment Spawn Pool None (Refused Memory) 1
+        ▸ moment (Spawn 0) Pool None (Refused Memory) 1
         ▸ moment Arrive Pool None NoAction 1) ≡ None }
 {}
 
@@ -294,7 +330,7 @@ pub fn owners_alone()
     // made 0 / asked / refused memory
     ensures refuses_refused_job { Solo 0 (events (item_asked ▸ polls (Refused Memory) 1)) → ⊥ }
     // made 0 / made 0
-    ensures refuses_second_making { Solo 0 (events (writer_made ▸ moment (New 2) (Owner 0) None (Made 0 2) 1)) → ⊥ }
+    ensures refuses_second_making { Solo 0 (events (writer_made ▸ moment (New 2 0) (Owner 0) None (Made 0 2) 1)) → ⊥ }
     // made 0 / parked, of no job
     ensures refuses_act_of_no_job { Solo 0 (events (writer_made ▸ of_owner 0 (moment (Job 1) (Worker 1) None JobParked 1))) → ⊥ }
     // .. / waits / replied ok 0, where the poll is over

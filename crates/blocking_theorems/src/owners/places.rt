@@ -36,7 +36,7 @@ pub fn owner_at_pipe()
 pub fn job_at_pipe()
     // made 0, with no number of bytes / asked / accepted 1 +1 / room 8388608
     ensures accepts_default_capacity { KeepsFirstOwner ([]
-        ▸ moment (New 0) (Owner 0) None (Made 0 0) 1 ▸ asks (Read 2) 1
+        ▸ moment (New 0 0) (Owner 0) None (Made 0 0) 1 ▸ asks (Read 2) 1
         ▸ polls (Accepted 1) 1 ▸ works 1 (RoomFree 8388608)) }
     // .. / took 1 / room 3: it is 4
     ensures refuses_less_room { Refuses FirstOwnerLaw reader_taken (works 1 (RoomFree 3)) }

@@ -15,15 +15,17 @@ ghost use Rattle.blocking_laws.specs.declared.step.Step.TheVariants.{New, Ask, O
 /// An owner may be made at any time, is numbered in order, and keeps the capacity that it was made with.
 pub fn makings()
     // made 0
-    ensures accepts_owner { StepLaw [] (moment (New 4) (Owner 0) None (Made 0 4) 1) }
+    ensures accepts_owner { StepLaw [] (moment (New 4 0) (Owner 0) None (Made 0 4) 1) }
+    // made 0, for client 7
+    ensures accepts_for_client { StepLaw [] (moment (New 4 7) (Owner 0) None (Made 0 4) 1) }
     // made 0 / made 1
-    ensures accepts_second { StepLaw one_made (moment (New 0) (Owner 1) None (Made 1 0) 1) }
+    ensures accepts_second { StepLaw one_made (moment (New 0 0) (Owner 1) None (Made 1 0) 1) }
     // nothing
-    ensures refuses_nothing { Refuses StepLaw [] (moment (New 4) Pool None NoAction 1) }
+    ensures refuses_nothing { Refuses StepLaw [] (moment (New 4 0) Pool None NoAction 1) }
     // made 0 / made 0
-    ensures refuses_number_again { Refuses StepLaw one_made (moment (New 4) (Owner 0) None (Made 0 4) 1) }
+    ensures refuses_number_again { Refuses StepLaw one_made (moment (New 4 0) (Owner 0) None (Made 0 4) 1) }
     // made 0, of another capacity
-    ensures refuses_other_capacity { Refuses StepLaw [] (moment (New 4) (Owner 0) None (Made 0 5) 1) }
+    ensures refuses_other_capacity { Refuses StepLaw [] (moment (New 4 0) (Owner 0) None (Made 0 5) 1) }
 {}
 
 /// An owner is asked and dropped where it is there and no poll of it is under way; its poll goes on while it is.

@@ -1,5 +1,5 @@
 -- What is written is no ending of what is shorter.
-use Rattle.std.proofs.Common.{◌≡◌, ◌<◌, ℕ, List, [], ◌∷◌, ◌++◌, length, ap, arith, length-append}
+use Rattle.std.proofs.Common.{◌<◌, ℕ, List, [], ◌∷◌, length, ap, arith, length-append}
 use Rattle.blocking_laws.specs.Copies.{IsEnding}
 use Rattle.blocking_theorems.proofs.copies.takes.Goals as goal
 

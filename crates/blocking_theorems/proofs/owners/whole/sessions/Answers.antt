@@ -22,6 +22,7 @@ use Rattle.blocking_laws.specs.declared.event.Party.{Party}
 use Rattle.blocking_laws.specs.declared.event.Party.TheVariants.{Owner, Pool}
 use Rattle.blocking_laws.specs.declared.event.Reply.TheVariants.{Handle}
 use Rattle.blocking_theorems.proofs.NoCopies.{none_copies}
+use Rattle.blocking_theorems.proofs.Orders.{legal_so, pooled_so}
 use Rattle.blocking_theorems.proofs.owners.whole.sessions.Goals as goal
 
 -- whether this is the first owner, or none
@@ -240,7 +241,7 @@ returns-clause-accepts_operation c = record {
 pub returns-clause-accepts_return : goal.returns-clause-accepts_return
 returns-clause-accepts_return c = record {
   steps = search rules;
-  pool = search rules;
+  pool = pooled_so (search rules);
   owners = λ h. by_first (0 == h) h (events inner_replied) refl refl returned_whole;
   copies = none_copies inner_replied refl;
   tasks = search rules;
@@ -253,7 +254,7 @@ returns-clause-accepts_return c = record {
 pub returns-clause-accepts_read : goal.returns-clause-accepts_read
 returns-clause-accepts_read c = record {
   steps = search rules;
-  pool = search rules;
+  pool = pooled_so (search rules);
   owners = λ h. by_first (0 == h) h (events end_read) refl refl read_whole;
   copies = none_copies end_read refl;
   tasks = search rules;
@@ -266,7 +267,7 @@ returns-clause-accepts_read c = record {
 pub returns-clause-accepts_stop : goal.returns-clause-accepts_stop
 returns-clause-accepts_stop c = record {
   steps = search rules;
-  pool = search rules;
+  pool = pooled_so (search rules);
   owners = λ h. by_first (0 == h) h (events (stop_back ▸ polls (Replied Handle) 2)) refl refl stopped_whole;
   copies = none_copies (stop_back ▸ polls (Replied Handle) 2) refl;
   tasks = search rules;
@@ -275,3 +276,6 @@ returns-clause-accepts_stop c = record {
   served = search rules;
   staffed = search rules;
 }
+
+pub returns-clause-accepts_drop : goal.returns-clause-accepts_drop
+returns-clause-accepts_drop c = legal_so (search rules)
