@@ -11,7 +11,7 @@ pub use Rattle.blocking_pool.specs.declared.pool.standing.Standing.{Standing}
 pub use Rattle.blocking_pool.specs.declared.pool.standing.Standing.TheVariants.{Done, Dropped, Parked, Queued, Running}
 pub use Rattle.blocking_pool.specs.declared.pool.token.WorkerPass.{WorkerPass}
 pub use Rattle.blocking_laws.specs.declared.event.Act.{Act}
-pub use Rattle.blocking_laws.specs.declared.event.Act.TheVariants.{Accepted, Answered, Arrived, Drained, Ended, Finished, GaveUp, HandedOut, HolderDropped, HolderWoken, JobCancelled, JobClosed, JobParked, JobWoken, LimitSet, Lost, NoAction, Peeked, Put, Refused, ResultPut, RoomFree, RoomShut, Stays, Stopped, Swept, TaskCancelled, TookDropped, TookNone}
+pub use Rattle.blocking_laws.specs.declared.event.Act.TheVariants.{Accepted, Answered, Arrived, ClientLimitSet, Drained, Ended, Finished, GaveUp, HandedOut, HolderDropped, HolderWoken, JobCancelled, JobClosed, JobParked, JobWoken, LimitSet, Lost, NoAction, Peeked, Put, Refused, ResultPut, RoomFree, RoomShut, Stays, Stopped, Swept, TaskCancelled, TookDropped, TookNone}
 pub use Rattle.blocking_laws.specs.declared.event.Event.{Event}
 pub use Rattle.blocking_laws.specs.declared.event.HolderWaker.{HolderWaker}
 pub use Rattle.blocking_laws.specs.declared.event.HolderWaker.TheVariants.{Absent, Taken}

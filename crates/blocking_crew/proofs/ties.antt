@@ -1,9 +1,11 @@
 pub mod Lists
 pub mod Acts
 pub mod Entries
+pub mod Ready
 pub mod Standings
 pub mod Sweeps
 pub mod Jobs
+pub mod Clients
 pub mod Flows
 pub mod Queue
 pub mod Counts

@@ -1,9 +1,9 @@
 -- The moves of a crew: each call of it is one of them, and each is seen as one event. A move bears what its event doesn't tell.
-use Rattle.std.specs.Prelude.{◌≡◌, ◌<◌, ◌+◌, ◌==◌, nat_lt, not, ℕ, Bool, true, false, [], ◌∷◌, ◌++◌, length, Option, Some, None, Result, Ok, Err, is_some}
+use Rattle.std.specs.Prelude.{◌≡◌, ◌<◌, ◌+◌, ◌==◌, nat_lt, not, ℕ, Bool, true, false, [], ◌∷◌, ◌++◌, length, Option, Some, None, Result, Ok, Err, is_some, IfSome}
 use Rattle.blocking_pool.specs.Counts.{after_arrival, after_limit}
 use Rattle.blocking_pool.specs.Growth.{Growth}
 use Rattle.blocking_pool.specs.Jobs.{JobNumber}
-use Rattle.blocking_pool.specs.Pools.{without_job}
+use Rattle.blocking_pool.specs.Pools.{ready, without_job}
 use Rattle.blocking_pool.specs.declared.pool.answer.Refusal.{Refusal}
 use Rattle.blocking_pool.specs.declared.pool.answer.Took.{Took as Taken}
 use Rattle.blocking_pool.specs.declared.pool.answer.Took.TheVariants.{Run, Drop, Idle}
@@ -15,14 +15,15 @@ use Rattle.blocking_pool.specs.declared.pool.token.WorkerPass.{WorkerPass}
 use Rattle.blocking_laws.specs.Answers.{wait_act}
 use Rattle.blocking_laws.specs.Jobs.{lets_go}
 use Rattle.blocking_laws.specs.Seen.{has_timed_out}
+use Rattle.blocking_laws.specs.Steps.{may_limit}
 use Rattle.blocking_laws.specs.declared.event.Act.{Act}
-use Rattle.blocking_laws.specs.declared.event.Act.TheVariants.{Made, Asked, OwnerClosed, Got, GotItem, GotEnd, Filled, FillShut, Back, ResultGot, Replied, Accepted, Refused, JobWoken, JobCancelled, LimitSet, Swept, Waits, TaskGot, TaskGotNone, TaskDetached, Arrived, Took, TookDropped, TookNone, Ended, HandedOut, Linked, Copied, CopyFailed, NoAction}
+use Rattle.blocking_laws.specs.declared.event.Act.TheVariants.{Made, Asked, OwnerClosed, Got, GotItem, GotEnd, Filled, FillShut, Back, ResultGot, Replied, Accepted, Refused, JobWoken, JobCancelled, LimitSet, ClientLimitSet, Swept, Waits, TaskGot, TaskGotNone, TaskDetached, Arrived, Took, TookDropped, TookNone, Ended, HandedOut, Linked, Copied, CopyFailed, NoAction}
 use Rattle.blocking_laws.specs.declared.event.Event.{Event}
 use Rattle.blocking_laws.specs.declared.event.Party.{Party}
 use Rattle.blocking_laws.specs.declared.event.Party.TheVariants.{Worker, Pool}
 use Rattle.blocking_laws.specs.declared.event.WaitEnd.{WaitEnd}
 use Rattle.blocking_crew.specs.Crews.{Crew, hand_at, with_hand, is_free_hand, over_in, waiting_in, acting_in, may_end, may_act, held_after_act, outcome_of, standing_after}
-use Rattle.blocking_crew.specs.Tickets.{JobPool, no_growth, AddsTo, TakesFront, Wakes, Cancels, SweepsTo, to_sweep, WaitsSo, ParksSo, pool_after_let_go}
+use Rattle.blocking_crew.specs.Tickets.{JobPool, no_growth, AddsTo, TakesFront, Wakes, Cancels, SweepsTo, to_sweep, WaitsSo, ParksSo, pool_after_let_go, with_client_limit}
 use Rattle.blocking_crew.specs.declared.hand.Hand.{Hand}
 use Rattle.blocking_crew.specs.declared.hand.Hand.TheVariants.{Out, Free, Holds}
 use Rattle.blocking_crew.specs.declared.hand.Held.{Held}
@@ -34,8 +35,8 @@ use Rattle.blocking_crew.specs.declared.tickets.Parking.TheVariants as parking
 
 -- What a crew may be asked for, with what it answers beside the event.
 pub data Call : Type 0 where
-  -- a new job, which this party brings, gets this number or is refused
-  Add : Party → Result JobNumber Refusal → Call
+  -- a new job of this client, which this party brings, gets this number or is refused
+  Add : Party → ℕ → Result JobNumber Refusal → Call
   -- a started worker arrives
   Arrive : Call
   -- worker v takes a job
@@ -50,6 +51,8 @@ pub data Call : Type 0 where
   Wait : ℕ → WaitEnd → Call
   -- the limit is set
   SetLimit : ℕ → Call
+  -- the client limit is set, or taken away
+  SetClientLimit : Option ℕ → Call
   -- the parked jobs that bear a mark are put back
   Sweep : Call
   -- a wake of this job, by this party
@@ -64,8 +67,8 @@ pub data Call : Type 0 where
 pub data Move : Type 0 where
   -- the call has no action
   Idles : Call → Move
-  -- a new job, by what the pool answers
-  Adds : Party → Result JobNumber Refusal → Growth → JobPool → Move
+  -- a new job of a client, by what the pool answers
+  Adds : Party → ℕ → Result JobNumber Refusal → Growth → JobPool → Move
   -- a worker arrives
   Arrives : WorkerPass → Move
   -- worker v takes a job, to be dropped (true) or to be run
@@ -82,6 +85,8 @@ pub data Move : Type 0 where
   HasWaited : ℕ → WorkerPass → WaitEnd → Waited → Growth → JobPool → Move
   -- the limit is set
   SetsLimit : ℕ → Move
+  -- the client limit is set, or taken away
+  SetsClientLimit : Option ℕ → Move
   -- a sweep
   Sweeps : Growth → JobPool → Move
   -- a wake of a job, and what it does
@@ -98,7 +103,7 @@ pub data Move : Type 0 where
 -- the call of a move
 abbrev pub call_of : Move → Call
 call_of (Idles call) = call
-call_of (Adds party added growth pool) = Add party added
+call_of (Adds party client added growth pool) = Add party client added
 call_of (Arrives pass) = Arrive
 call_of (TakesJob v old to_drop turn ticket growth pool) = Take v
 call_of (TakesNone v old pass) = Take v
@@ -107,6 +112,7 @@ call_of (EndsTurn v held pass) = End v
 call_of (Parks v held ticket parked pool) = Park v ticket
 call_of (HasWaited v pass end waited growth pool) = Wait v end
 call_of (SetsLimit n) = SetLimit n
+call_of (SetsClientLimit limit) = SetClientLimit limit
 call_of (Sweeps growth pool) = Sweep
 call_of (IsWoken party number woke growth pool) = Wake party number
 call_of (IsCancelled party number woke growth pool) = Cancel party number
@@ -172,7 +178,7 @@ parked_act (parking.HandedOut turn) s = HandedOut s
 -- the event of a move
 abbrev pub event_of : Crew → Move → Event
 event_of crew (Idles call) = nothing (named call) (next_start crew)
-event_of crew (Adds party added growth pool) = seen party None (added_act added) (next_start crew) growth
+event_of crew (Adds party client added growth pool) = seen party None (added_act added) (next_start crew) growth
 event_of crew (Arrives pass) = seen (Worker (length crew.hands + 1)) None (Arrived (length crew.hands + 1)) (next_start crew) no_growth
 event_of crew (TakesJob v old to_drop turn ticket growth pool) = seen (Worker v) (Some turn.serial) (took_act to_drop turn.serial) (next_start crew) growth
 event_of crew (TakesNone v old pass) = seen (Worker v) None TookNone (next_start crew) no_growth
@@ -181,6 +187,7 @@ event_of crew (EndsTurn v held pass) = seen (Worker v) (Some held.turn.serial) (
 event_of crew (Parks v held ticket parked pool) = seen (Worker v) (Some held.turn.serial) (parked_act parked held.turn.serial) (next_start crew) no_growth
 event_of crew (HasWaited v pass end waited growth pool) = seen (Worker v) None (wait_act v end (is_stop waited)) (next_start crew) growth
 event_of crew (SetsLimit n) = seen Pool None (LimitSet n) (next_start crew) no_growth
+event_of crew (SetsClientLimit limit) = seen Pool None (ClientLimitSet limit) (next_start crew) no_growth
 event_of crew (Sweeps growth pool) = seen Pool None (Swept (length (to_sweep crew.pool))) (next_start crew) growth
 event_of crew (IsWoken party number woke growth pool) = seen party None (JobWoken number.serial woke) (next_start crew) growth
 event_of crew (IsCancelled party number woke growth pool) = seen party None (JobCancelled number.serial woke) (next_start crew) growth
@@ -214,7 +221,7 @@ hand_after_wait Stop = Out
 -- the crew after a move
 abbrev pub after : Crew → Move → Crew
 after crew (Idles call) = crew
-after crew (Adds party added growth pool) = record crew { pool = pool }
+after crew (Adds party client added growth pool) = record crew { pool = pool }
 after crew (Arrives pass) = record { pool = record crew.pool { counts = after_arrival crew.pool.counts }; hands = crew.hands ++ Free pass ∷ [] }
 after crew (TakesJob v old to_drop turn ticket growth pool) = record { pool = pool; hands = with_hand crew.hands v (Holds (record { turn = turn; stage = first_stage to_drop })) }
 after crew (TakesNone v old pass) = record crew { hands = with_hand crew.hands v (Free pass) }
@@ -223,6 +230,7 @@ after crew (EndsTurn v held pass) = record { pool = without_job crew.pool held.t
 after crew (Parks v held ticket parked pool) = record { pool = pool; hands = with_hand crew.hands v (hand_after_park parked) }
 after crew (HasWaited v pass end waited growth pool) = record { pool = pool; hands = with_hand crew.hands v (hand_after_wait waited) }
 after crew (SetsLimit n) = record crew { pool = record crew.pool { counts = after_limit n crew.pool.counts } }
+after crew (SetsClientLimit limit) = record crew { pool = with_client_limit limit crew.pool }
 after crew (Sweeps growth pool) = record crew { pool = pool }
 after crew (IsWoken party number woke growth pool) = record crew { pool = pool }
 after crew (IsCancelled party number woke growth pool) = record crew { pool = pool }
@@ -240,6 +248,7 @@ has_action crew (End v) = is_some (over_in (hand_at crew.hands v))
 has_action crew (Park v ticket) = is_some (waiting_in (hand_at crew.hands v))
 has_action crew (Wait v end) = is_free_hand (hand_at crew.hands v)
 has_action crew (SetLimit n) = not (n == 0)
+has_action crew (SetClientLimit limit) = may_limit limit
 has_action crew _ = true
 
 -- whether an act of a party is nothing to the crew
@@ -267,15 +276,16 @@ is_aside _ = false
 
 abbrev pub May : (ℕ → Bool → Type 0) → Crew → Move → Type 0
 May may_answer crew (Idles call) = has_action crew call ≡ false
-May may_answer crew (Adds party added growth pool) = AddsTo may_answer crew.pool added growth pool
+May may_answer crew (Adds party client added growth pool) = AddsTo may_answer crew.pool client added growth pool
 May may_answer crew (Arrives pass) = 0 < crew.pool.counts.arriving
 May may_answer crew (TakesJob v old to_drop turn ticket growth pool) = (hand_at crew.hands v ≡ Free old) × TakesFront may_answer crew.pool turn ticket to_drop growth pool
-May may_answer crew (TakesNone v old pass) = (hand_at crew.hands v ≡ Free old) × (crew.pool.queue ≡ [])
+May may_answer crew (TakesNone v old pass) = (hand_at crew.hands v ≡ Free old) × (ready crew.pool ≡ [])
 May may_answer crew (Works v held act) = (hand_at crew.hands v ≡ Holds held) × (may_act held.stage act ≡ true)
 May may_answer crew (EndsTurn v held pass) = (hand_at crew.hands v ≡ Holds held) × (may_end held.stage ≡ true)
 May may_answer crew (Parks v held ticket parked pool) = (hand_at crew.hands v ≡ Holds held) × (held.stage ≡ stage.Waits) × ParksSo crew.pool held.turn ticket parked pool
 May may_answer crew (HasWaited v pass end waited growth pool) = (hand_at crew.hands v ≡ Free pass) × WaitsSo may_answer (has_timed_out end) crew.pool waited growth pool
 May may_answer crew (SetsLimit n) = 0 < n
+May may_answer crew (SetsClientLimit limit) = IfSome limit (λ most. 0 < most)
 May may_answer crew (Sweeps growth pool) = SweepsTo may_answer crew.pool (to_sweep crew.pool) growth pool
 May may_answer crew (IsWoken party number woke growth pool) = Wakes may_answer crew.pool number woke growth pool
 May may_answer crew (IsCancelled party number woke growth pool) = Cancels may_answer crew.pool number woke growth pool

@@ -1,12 +1,13 @@
 -- What the calls of a pool of tickets answer, with the growth that each has.
-use Rattle.std.specs.Prelude.{◌≡◌, ◌<◌, ℕ, ◌+◌, Bool, true, false, ◌&&◌, ◌||◌, List, [], ◌∷◌, ◌++◌, length, filter, Option, Some, None, is_some, Result, Ok, Err}
+use Rattle.std.specs.Prelude.{◌≡◌, ◌<◌, ℕ, ◌+◌, Bool, true, false, ◌&&◌, ◌||◌, List, [], ◌∷◌, length, filter, Option, Some, None, is_some, Result, Ok, Err}
 use Rattle.std.specs.Coded.{Coded}
 use Rattle.std.specs.FinMap as map
-use Rattle.blocking_pool.specs.Counts.{Counts, limit_of, after_pickup}
+use Rattle.blocking_pool.specs.Counts.{Counts, limit_of, after_pickup, after_ring}
 use Rattle.blocking_pool.specs.Growth.{Growth, IsGrowth, StartAnswer, after_growth, greatest}
-use Rattle.blocking_pool.specs.Jobs.{Job, Jobs, JobNumber, is_running, is_parked, entry_after_take, entry_after_wake, entry_after_cancel, entry_with, job_of, standing_of, value_at}
+use Rattle.blocking_pool.specs.Jobs.{Job, Jobs, JobNumber, is_running, is_parked, entry_after_wake, entry_after_cancel, entry_with, job_of, standing_of, value_at}
 use Rattle.blocking_pool.specs.PoolAnswers.{StaysOrStops}
-use Rattle.blocking_pool.specs.Pools.{Pool, pool_code, after_entry, after_requeue, after_park, after_return, with_job}
+use Rattle.blocking_pool.specs.Lists.{without, first_of}
+use Rattle.blocking_pool.specs.Pools.{Pool, pool_code, ready, ready_with, with_taken, ring_of_client_limit, after_entry, after_requeue, after_park, after_return, with_job}
 use Rattle.blocking_pool.specs.Sweeps.{serials_below}
 use Rattle.blocking_pool.specs.Wakes.{wake_of, cancel_of}
 use Rattle.blocking_pool.specs.declared.pool.answer.Refusal.{Refusal}
@@ -44,66 +45,62 @@ GrowsBy may_answer ready counts growth =
 
 -- ---- new jobs
 
--- A new job stands at the queue's end under the next serial, which was no job's, after a growth that leaves a worker.
-pub record Accepts (may_answer : ℕ → Bool → Type 0) (old : JobPool) (number : JobNumber) (growth : Growth) (new : JobPool) : Type 0 where
+-- A new job of a client stands at the queue's end under the next serial, which was no job's, after a growth that leaves a worker. The pool
+-- grows by the jobs that are ready then.
+pub record Accepts (may_answer : ℕ → Bool → Type 0) (old : JobPool) (client : ℕ) (number : JobNumber) (growth : Growth) (new : JobPool) : Type 0 where
   pub serial : number.serial ≡ old.next_serial
   pub left : old.next_serial < greatest
   pub unused : map.get old.jobs old.next_serial ≡ None
-  pub starts : GrowsBy may_answer (length old.queue + 1) old.counts growth
+  pub starts : GrowsBy may_answer (length (ready new)) old.counts growth
   pub staffed : 0 < old.counts.workers + growth.started
-  pub after_is : new ≡ after_entry old number.place new_ticket (after_growth old.counts growth)
+  pub after_is : new ≡ after_entry old number.place client new_ticket (after_growth old.counts growth)
 
--- a new job finds no worker, and nothing stays of it but the counts of its growth
-pub record FindsNoWorker (may_answer : ℕ → Bool → Type 0) (old : JobPool) (growth : Growth) (new : JobPool) : Type 0 where
+-- A new job finds no worker, and nothing stays of it but the counts of its growth, which was by the jobs that are ready, and by the new one
+-- where its client has room.
+pub record FindsNoWorker (may_answer : ℕ → Bool → Type 0) (old : JobPool) (client : ℕ) (growth : Growth) (new : JobPool) : Type 0 where
   pub left : old.next_serial < greatest
-  pub starts : GrowsBy may_answer (length old.queue + 1) old.counts growth
+  pub starts : GrowsBy may_answer (ready_with old client) old.counts growth
   pub unstaffed : old.counts.workers + growth.started ≡ 0
   pub after_is : new ≡ record old { counts = after_growth old.counts growth }
 
 -- a new job is refused, and why
-abbrev pub Refuses : (ℕ → Bool → Type 0) → JobPool → Refusal → Growth → JobPool → Type 0
-Refuses may_answer old Numbers growth new = (old.next_serial ≡ greatest) × (growth ≡ no_growth) × (new ≡ old)
-Refuses may_answer old Memory growth new = (growth ≡ no_growth) × (new ≡ old) × (old.next_serial < greatest)
-Refuses may_answer old NoWorker growth new = FindsNoWorker may_answer old growth new
+abbrev pub Refuses : (ℕ → Bool → Type 0) → JobPool → ℕ → Refusal → Growth → JobPool → Type 0
+Refuses may_answer old client Numbers growth new = (old.next_serial ≡ greatest) × (growth ≡ no_growth) × (new ≡ old)
+Refuses may_answer old client Memory growth new = (growth ≡ no_growth) × (new ≡ old) × (old.next_serial < greatest)
+Refuses may_answer old client NoWorker growth new = FindsNoWorker may_answer old client growth new
 
--- a new job is accepted or refused
-abbrev pub AddsTo : (ℕ → Bool → Type 0) → JobPool → Result JobNumber Refusal → Growth → JobPool → Type 0
-AddsTo may_answer old (Ok number) growth new = Accepts may_answer old number growth new
-AddsTo may_answer old (Err why) growth new = Refuses may_answer old why growth new
+-- a new job of a client is accepted or refused
+abbrev pub AddsTo : (ℕ → Bool → Type 0) → JobPool → ℕ → Result JobNumber Refusal → Growth → JobPool → Type 0
+AddsTo may_answer old client (Ok number) growth new = Accepts may_answer old client number growth new
+AddsTo may_answer old client (Err why) growth new = Refuses may_answer old client why growth new
 
 -- ---- takes
 
--- The front job is taken, which is queued, to be dropped where it was cancelled or is marked, and else to be run. The pool
--- grows by the jobs that are left in the queue.
+-- The first ready job is taken, which is queued, once, to be dropped where it was cancelled or is marked, and else to be run. The pool grows
+-- by the jobs that are ready then.
 pub record TakesFront (may_answer : ℕ → Bool → Type 0) (old : JobPool) (number : JobNumber) (value : Ticket) (to_drop : Bool) (growth : Growth) (new : JobPool) : Type 0 where
-  pub rest : List ℕ
-  pub front : old.queue ≡ number.serial ∷ rest
+  pub front : first_of (ready old) ≡ Some number.serial
+  pub once : length (without number.serial old.queue) + 1 ≡ length old.queue
   pub job : Job Ticket
   pub found : map.get old.jobs number.serial ≡ Some job
   pub stands : job.standing ≡ Queued
   pub place : job.place ≡ number.place
   pub value_is : job.value ≡ Some value
   pub wanted : to_drop ≡ (job.cancelled || value.is_marked)
-  pub starts : GrowsBy may_answer (length rest) (after_pickup old.counts) growth
-  pub after_is :
-      new ≡ record {
-        queue = rest;
-        jobs = map.insert old.jobs number.serial (entry_after_take job);
-        counts = after_growth (after_pickup old.counts) growth;
-        next_serial = old.next_serial;
-      }
+  pub starts : GrowsBy may_answer (length (ready new)) (after_pickup old.counts) growth
+  pub after_is : new ≡ record (with_taken old number.serial job) { counts = after_growth (after_pickup old.counts) growth }
 
--- a worker takes the front job, or finds none
+-- a worker takes the first ready job, or finds none
 abbrev pub TakesTo : (ℕ → Bool → Type 0) → JobPool → Took Ticket → Growth → JobPool → Type 0
 TakesTo may_answer old (Run turn value) growth new = TakesFront may_answer old turn value false growth new
 TakesTo may_answer old (Drop turn value) growth new = TakesFront may_answer old turn value true growth new
-TakesTo may_answer old (Idle pass) growth new = (old.queue ≡ []) × (growth ≡ no_growth) × (new ≡ old)
+TakesTo may_answer old (Idle pass) growth new = (ready old ≡ []) × (growth ≡ no_growth) × (new ≡ old)
 
 -- ---- wakes and cancels
 
--- Jobs that were parked enter again, in this order, and the pool grows once, by all jobs that are queued then.
+-- Jobs that were parked enter again, in this order, and the pool grows once, by all jobs that are ready then.
 pub record EntersAgain (may_answer : ℕ → Bool → Type 0) (old : JobPool) (serials : List ℕ) (growth : Growth) (new : JobPool) : Type 0 where
-  pub starts : GrowsBy may_answer (length (old.queue ++ serials)) old.counts growth
+  pub starts : GrowsBy may_answer (length (ready new)) old.counts growth
   pub after_is : new ≡ after_requeue old serials (after_growth old.counts growth)
 
 -- what a wake leaves
@@ -204,3 +201,9 @@ pool_after_mark pool number = pool_after_mark_of pool number (value_at (job_of p
 abbrev pub pool_after_let_go : JobPool → Option JobNumber → JobPool
 pool_after_let_go pool None = pool
 pool_after_let_go pool (Some number) = pool_after_mark pool number
+
+-- ---- the client limit
+
+-- the pool after its client limit was set, or taken away
+abbrev pub with_client_limit : Option ℕ → JobPool → JobPool
+with_client_limit limit pool = record pool { client_limit = limit; counts = after_ring (ring_of_client_limit limit pool.client_limit) pool.counts }

@@ -9,9 +9,9 @@ use Rattle.blocking_pool.specs.declared.pool.standing.Standing.{Standing}
 use Rattle.blocking_pool.specs.declared.pool.standing.Standing.TheVariants.{Queued, Running, Parked, Done, Dropped}
 use Rattle.blocking_laws.specs.Counts.{starts, stops, refused_starts, arrivals, limit}
 use Rattle.blocking_laws.specs.Growth.{known_limit}
-use Rattle.blocking_laws.specs.Jobs.{accepted_jobs, holder, is_holder, standing, is_woken, is_cancelled, is_marked, has_ended}
+use Rattle.blocking_laws.specs.Jobs.{accepted_jobs, client, client_of_step, holder, is_holder, standing, is_woken, is_cancelled, is_marked, has_ended}
 use Rattle.blocking_laws.specs.Legal.{PoolLaw}
-use Rattle.blocking_laws.specs.Queue.{queue, running}
+use Rattle.blocking_laws.specs.Queue.{client_limit, queue, running}
 use Rattle.blocking_laws.specs.Seen.{EachMayFollow, is_nothing}
 use Rattle.blocking_laws.specs.Served.{IsServed}
 use Rattle.blocking_laws.specs.Staffed.{passes, turns}
@@ -22,7 +22,7 @@ use Rattle.blocking_laws.specs.declared.event.Moment.{Moment}
 use Rattle.blocking_laws.specs.declared.event.Party.{Party}
 use Rattle.blocking_laws.specs.declared.step.Step.{Step}
 use Rattle.blocking_crew.specs.Crews.{Crew, IsReady, hand_at, free_hands, busy_hands}
-use Rattle.blocking_crew.specs.Moves.{Move, Call, Park, Wake, Cancel, LetGo, event_of, next_start, is_aside}
+use Rattle.blocking_crew.specs.Moves.{Move, Call, Add, Park, Wake, Cancel, LetGo, event_of, next_start, is_aside}
 use Rattle.blocking_crew.specs.Tickets.{JobPool}
 use Rattle.blocking_crew.specs.declared.hand.Hand.{Hand}
 use Rattle.blocking_crew.specs.declared.hand.Hand.TheVariants.{Out, Free, Holds}
@@ -63,6 +63,17 @@ FiledHere found past s = FiledAs found (standing past s) (is_woken past s) (is_c
 -- each job of the pool is as it was seen
 abbrev pub Filed : JobPool → List Moment → Type 0
 Filed pool past = (s : ℕ) → FiledHere (get pool.jobs s) past s
+
+-- ---- clients
+
+-- each job of the pool is of the client that was seen
+abbrev pub Assigned : JobPool → List Moment → Type 0
+Assigned pool past = (s : ℕ) (entry : Entry Ticket) → get pool.jobs s ≡ Some entry → entry.client ≡ client past s
+
+-- The client limit is the one that was seen, and lets at least one job run.
+pub record Limited (pool : JobPool) (past : List Moment) : Type 0 where
+  pub limit_is : pool.client_limit ≡ client_limit past
+  pub positive : IfSome pool.client_limit (λ most. 0 < most)
 
 -- ---- the queue
 
@@ -122,6 +133,8 @@ pub record Handed (crew : Crew) (past : List Moment) : Type 0 where
 pub record Crewed (setting : ℕ) (crew : Crew) (past : List Moment) : Type 0 where
   pub numbered : Numbered crew.pool past
   pub filed : Filed crew.pool past
+  pub assigned : Assigned crew.pool past
+  pub limited : Limited crew.pool past
   pub lined : Lined crew.pool past
   pub counted : Counted setting crew past
   pub handed : Handed crew past
@@ -171,14 +184,16 @@ is_serial_of (Some number) s = number.serial == s
 abbrev pub HoldsAtRest : List Moment → Party → Option JobNumber → Type 0
 HoldsAtRest past party number = (s : ℕ) → has_ticket (standing past s) ≡ true → is_holder (holder past s) party ≡ is_serial_of number s
 
--- What a call asks of the layer above, which knows what each job is for: that a number is its job's; that the ticket of a job
--- that waits bears its mark; and that who lets go of a job holds it, and no other job that is queued or parked.
-abbrev pub IsAsked : Crew → List Moment → Call → Type 0
-IsAsked crew past (Park v ticket) = (held : Held) → hand_at crew.hands v ≡ Holds held → ticket.is_marked ≡ is_marked past held.turn.serial
-IsAsked crew past (Wake party number) = IsNumberOf crew.pool number
-IsAsked crew past (Cancel party number) = IsNumberOf crew.pool number
-IsAsked crew past (LetGo party act number) = IfSome number (IsNumberOf crew.pool) × HoldsAtRest past party number
-IsAsked crew past call = Unit {0}
+-- What a call asks of the layer above, which knows what each job is for, and by which step the call is made: that a new job is of the client
+-- of that step; that a number is its job's; that the ticket of a job that waits bears its mark; and that who lets go of a job holds it, and no
+-- other job that is queued or parked.
+abbrev pub IsAsked : Crew → List Moment → Step → Call → Type 0
+IsAsked crew past step (Add party client added) = client ≡ client_of_step past step
+IsAsked crew past step (Park v ticket) = (held : Held) → hand_at crew.hands v ≡ Holds held → ticket.is_marked ≡ is_marked past held.turn.serial
+IsAsked crew past step (Wake party number) = IsNumberOf crew.pool number
+IsAsked crew past step (Cancel party number) = IsNumberOf crew.pool number
+IsAsked crew past step (LetGo party act number) = IfSome number (IsNumberOf crew.pool) × HoldsAtRest past party number
+IsAsked crew past step call = Unit {0}
 
 -- An event of the layer above that is nothing to the crew: it starts nobody, and is no act of a job or of the pool.
 pub record IsAside (crew : Crew) (e : Event) : Type 0 where

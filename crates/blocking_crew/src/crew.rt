@@ -1,6 +1,7 @@
 //! The pool's half of a world: each kind of step of the pool is one call, and answers what is seen of it.
-ghost use Rattle.std.specs.Prelude.{◌≡◌, [], true, Err, IfOk, OnErr};
+ghost use Rattle.std.specs.Prelude.{◌≡◌, ℕ, [], true, Err, IfOk, OnErr};
 ghost use Rattle.blocking_laws.specs.Answers.{wait_act};
+ghost use Rattle.blocking_laws.specs.Steps.{may_limit};
 ghost use Rattle.blocking_crew.specs.Moves.{Moves, NeverAsked, hand_after_take, job_of_take, act_of_take, hand_after_park, parked_act, hand_after_wait, is_stop, seen as what_is_seen, nothing as what_is_not};
 
 use crate::hand::{Hand, Held, Stage};
@@ -56,7 +57,7 @@ impl Crew {
     ghost use Rattle.blocking_pool.specs.PoolAnswers.{pool_of};
     ghost use Rattle.blocking_crew.specs.Closing.{RefusesAll};
     ghost use Rattle.blocking_crew.specs.Crews.{IsReady, hand_at, in_hand_of};
-    ghost use Rattle.blocking_crew.specs.Moves.{Add, Arrive, Take, Work, End, Park, Wait, SetLimit, Sweep, Wake, Cancel, LetGo, Tell, next_start, is_aside};
+    ghost use Rattle.blocking_crew.specs.Moves.{Add, Arrive, Take, Work, End, Park, Wait, SetLimit, SetClientLimit, Sweep, Wake, Cancel, LetGo, Tell, next_start, is_aside};
     ghost use Rattle.blocking_laws.specs.Jobs.{lets_go};
     ghost use Rattle.blocking_laws.specs.declared.event.Act.TheVariants.{NoAction};
 
@@ -70,13 +71,14 @@ impl Crew {
         }
     }
 
-    /// A new job, which this party brings, enters the queue, and the pool grows; or it is refused, and the queue and the jobs are as before.
-    pub fn add<S: Starter>(&mut self, party: Party, starter: &mut S) -> Added
+    /// A new job of this client, which this party brings, enters the queue, and the pool grows; or it is refused, and the queue and the jobs
+    /// are as before.
+    pub fn add<S: Starter>(&mut self, party: Party, client: u32, starter: &mut S) -> Added
         ensures { Moves (S.may_answer starter.old)
-            (Add party result.number) self.old result.event self.new }
+            (Add party client result.number) self.old result.event self.new }
     {
         let first = self.next_start();
-        let (number, growth) = self.tickets.add(starter);
+        let (number, growth) = self.tickets.add(client, starter);
         let act = match number {
             Ok(number) => Act::Accepted(number.serial()),
             Err(why) => Act::Refused(why),
@@ -86,9 +88,10 @@ impl Crew {
     }
 
     /// A new job, which this party brings, is refused, since there was no memory for what it needs beside its place in the pool; or for its
-    /// number, where the numbers are used up. Nothing changes: why, and what is seen of it.
+    /// number, where the numbers are used up. Nothing changes: why, and what is seen of it, whoever its client is.
     pub fn refuse(&self, party: Party) -> (Refusal, Event)
-        ensures { Moves NeverAsked (Add party (Err result.0)) self.now result.1 self.now }
+        ensures { (client : ℕ) →
+            Moves NeverAsked (Add party client (Err result.0)) self.now result.1 self.now }
     {
         let first = self.next_start();
         let why = self.tickets.refuse();
@@ -109,7 +112,7 @@ impl Crew {
         Ok(seen(party, None, Act::Arrived(worker), first, NO_GROWTH))
     }
 
-    /// An idle worker takes the front job, to run it or to drop it, and the pool grows by what is left; or no job is queued.
+    /// An idle worker takes the first ready job, to run it or to drop it, and the pool grows by those that are ready then; or no job is ready.
     pub fn take<S: Starter>(&mut self, worker: usize, starter: &mut S) -> Event
         ensures { Moves (S.may_answer starter.old) (Take worker) self.old result self.new }
     {
@@ -198,6 +201,24 @@ impl Crew {
         }
         self.tickets.set_limit(limit);
         seen(Party::Pool, None, Act::LimitSet(limit), first, NO_GROWTH)
+    }
+
+    /// The limit of running jobs for each client is set, unless it is 0, or taken away. The pool doesn't grow.
+    pub fn set_client_limit(&mut self, limit: Option<usize>) -> Event
+        ensures { Moves NeverAsked (SetClientLimit limit) self.old result self.new }
+    {
+        let first = self.next_start();
+        if !may_limit(limit) {
+            return nothing(Party::Pool, first);
+        }
+        self.tickets.set_client_limit(limit);
+        seen(
+            Party::Pool,
+            None,
+            Act::ClientLimitSet(limit),
+            first,
+            NO_GROWTH,
+        )
     }
 
     /// The parked jobs that bear a mark are put back, in the order in which they were accepted, and the pool grows once where there are any.
@@ -289,8 +310,8 @@ impl Crew {
         self.tickets.pool()
     }
 
-    /// Ends every turn, as done, and then lets every worker go: each takes what is queued, and ends it as done, and waits until its time is
-    /// up, until it stops. No worker may be started any more. Takes no memory.
+    /// Ends every turn, as done, and then lets every worker go: each takes what is queued, whatever the client limit was, and ends it as done,
+    /// and waits until its time is up, until it stops. No worker may be started any more. Takes no memory.
     pub fn close<S: Starter>(self, starter: &mut S)
         requires { RefusesAll (S.may_answer starter.old) }
     {
@@ -354,6 +375,16 @@ fn settled(waited: Waited, worker: usize, end: WaitEnd) -> (Hand, Act)
     match waited {
         Waited::Stay(pass) => (Hand::Free(pass), Act::Stays(worker, end)),
         Waited::Stop => (Hand::Out, Act::Stopped(worker, end)),
+    }
+}
+
+// Whether a client limit may be set so: to a number above 0, or to none.
+fn may_limit(limit: Option<usize>) -> bool
+    ensures { result ≡ may_limit limit }
+{
+    match limit {
+        Some(most) => most > 0,
+        None => true,
     }
 }
 

@@ -21,16 +21,16 @@ pub fn each_call()
     ensures holds { (setting : ℕ) (plan : List Bool) (crew new : Crew) (past : List Moment)
         (call : Call) (e : Event) (step : Step) (owner : Option ℕ) →
         CrewHolds setting plan crew past → Moves (IsPlanned plan) call crew e new →
-        IsAsked crew past call → CrewHolds setting plan new (seen_as step e owner ∷ past) }
+        IsAsked crew past step call → CrewHolds setting plan new (seen_as step e owner ∷ past) }
     ensures served { (setting : ℕ) (plan : List Bool) (crew new : Crew) (past : List Moment)
         (call : Call) (e : Event) (step : Step) (owner : Option ℕ) →
         CrewHolds setting plan crew past → Moves (IsPlanned plan) call crew e new →
-        IsAsked crew past call → Served setting past →
+        IsAsked crew past step call → Served setting past →
         Served setting (seen_as step e owner ∷ past) }
     ensures numbers { (setting : ℕ) (plan : List Bool) (crew new : Crew) (past : List Moment)
         (call : Call) (e : Event) (number : JobNumber) →
         CrewHolds setting plan crew past → Moves (IsPlanned plan) call crew e new →
-        IsAsked crew past call → is_some (standing past number.serial) ≡ true →
+        is_some (standing past number.serial) ≡ true →
         IsNumberOf crew.pool number → IsNumberOf new.pool number }
     ensures aside { (setting : ℕ) (plan : List Bool) (crew : Crew) (past : List Moment)
         (last : Moment) → CrewHolds setting plan crew past → IsAside crew last.event →
@@ -41,8 +41,9 @@ pub fn each_call()
 pub fn beginnings()
     ensures crew { (setting : ℕ) (plan : List Bool) →
         CrewHolds setting plan (record { pool = empty_pool setting 1 1; hands = [] }) [] }
-    ensures number { (plan : List Bool) (crew new : Crew) (party : Party) (number : JobNumber)
-        (e : Event) → Moves (IsPlanned plan) (Add party (Ok number)) crew e new →
+    ensures number { (plan : List Bool) (crew new : Crew) (party : Party) (client : ℕ)
+        (number : JobNumber) (e : Event) →
+        Moves (IsPlanned plan) (Add party client (Ok number)) crew e new →
         IsNumberOf new.pool number }
 {}
 

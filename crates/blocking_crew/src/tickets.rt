@@ -1,5 +1,5 @@
 //! A pool of tickets, with what is told of its growth.
-ghost use Rattle.std.specs.Prelude.{◌≡◌, ◌<◌, ◌≤◌, ◌+◌, ◌-◌, length, [], ℕ, Bool, true, false, Err};
+ghost use Rattle.std.specs.Prelude.{◌≡◌, ◌<◌, ◌≤◌, ◌+◌, ◌-◌, length, [], ℕ, Bool, true, false, Err, None, IfSome};
 ghost use Rattle.blocking_pool.specs.Growth.{is_due, greatest, number_after};
 ghost use Rattle.blocking_pool.specs.Counts.{limit_of};
 
@@ -107,7 +107,7 @@ impl Tickets {
     ghost use Rattle.blocking_pool.specs.Counts.{after_limit};
     ghost use Rattle.blocking_crew.specs.Closing.{NoneDue, PassesOver};
     ghost use Rattle.blocking_crew.specs.Moves.{NeverAsked};
-    ghost use Rattle.blocking_crew.specs.Tickets.{AddsTo, no_growth, TakesTo, Wakes, Cancels, AreValued, to_sweep, SweepsTo, SweepsIf, WaitsSo, ParksSo, pool_after_mark, pool_after_let_go};
+    ghost use Rattle.blocking_crew.specs.Tickets.{AddsTo, no_growth, TakesTo, Wakes, Cancels, AreValued, to_sweep, SweepsTo, SweepsIf, WaitsSo, ParksSo, pool_after_mark, pool_after_let_go, with_client_limit};
 
     // A pool with no job and no worker.
     pub(crate) fn new(alloc: Global, setting: Option<&str>) -> Tickets
@@ -139,14 +139,18 @@ impl Tickets {
         }
     }
 
-    // A new job is added, and its number or why it is refused comes back.
-    pub(crate) fn add<S: Starter>(&mut self, starter: &mut S) -> (Result<JobNo, Refusal>, Grown)
-        ensures { AddsTo (S.may_answer starter.old) self.old result.0 result.1 self.new }
+    // A new job of this client is added, and its number or why it is refused comes back.
+    pub(crate) fn add<S: Starter>(
+        &mut self,
+        client: u32,
+        starter: &mut S,
+    ) -> (Result<JobNo, Refusal>, Grown)
+        ensures { AddsTo (S.may_answer starter.old) self.old client result.0 result.1 self.new }
     {
         let before = self.before();
-        match self.pool.add(Ticket::new(), starter) {
+        match self.pool.add_for(client, Ticket::new(), starter) {
             Ok(number) => {
-                let ready = self.pool.queue_len();
+                let ready = self.pool.ready_len();
                 let growth = growth_since(&self.pool, before, ready);
                 self.next_start = next_after(self.next_start, growth);
                 self.next_serial += 1;
@@ -154,7 +158,7 @@ impl Tickets {
             }
             Err(refused) => match refused.why {
                 Refusal::NoWorker => {
-                    // With no worker none is idle, so that one ready job is as good as many.
+                    // With no worker none is idle, and no job runs, so that the new one is ready, and one ready job is as good as many.
                     let growth = growth_since(&self.pool, before, 1);
                     self.next_start = next_after(self.next_start, growth);
                     (Err(Refusal::NoWorker), growth)
@@ -164,9 +168,9 @@ impl Tickets {
         }
     }
 
-    // Why a new job is refused that found no memory before it came to the pool.
+    // Why a new job is refused, whoever its client is, that found no memory before it came to the pool.
     pub(crate) fn refuse(&self) -> Refusal
-        ensures { AddsTo NeverAsked self.now (Err result) no_growth self.now }
+        ensures { (client : ℕ) → AddsTo NeverAsked self.now client (Err result) no_growth self.now }
     {
         if self.next_serial == u64::MAX {
             return Refusal::Numbers;
@@ -174,7 +178,7 @@ impl Tickets {
         Refusal::Memory
     }
 
-    // A worker takes the front job.
+    // A worker takes the first ready job.
     pub(crate) fn take<S: Starter>(
         &mut self,
         pass: WorkerPass,
@@ -188,7 +192,7 @@ impl Tickets {
             Took::Idle(pass) => return (Took::Idle(pass), NO_GROWTH),
             took => took,
         };
-        let left = self.pool.queue_len();
+        let left = self.pool.ready_len();
         let growth = growth_since(&self.pool, before, left);
         self.next_start = next_after(self.next_start, growth);
         (took, growth)
@@ -210,7 +214,7 @@ impl Tickets {
         let Woke::Entered = woke else {
             return (woke, NO_GROWTH);
         };
-        let ready = self.pool.queue_len();
+        let ready = self.pool.ready_len();
         let growth = growth_since(&self.pool, before, ready);
         self.next_start = next_after(self.next_start, growth);
         (Woke::Entered, growth)
@@ -225,7 +229,7 @@ impl Tickets {
         let Woke::Entered = woke else {
             return (woke, NO_GROWTH);
         };
-        let ready = self.pool.queue_len();
+        let ready = self.pool.ready_len();
         let growth = growth_since(&self.pool, before, ready);
         self.next_start = next_after(self.next_start, growth);
         (Woke::Entered, growth)
@@ -245,7 +249,7 @@ impl Tickets {
         if count == 0 {
             return (0, NO_GROWTH);
         }
-        let ready = self.pool.queue_len();
+        let ready = self.pool.ready_len();
         let growth = growth_since(&self.pool, before, ready);
         self.next_start = next_after(self.next_start, growth);
         (count, growth)
@@ -344,6 +348,14 @@ impl Tickets {
         self.pool.set_limit(limit);
     }
 
+    // Sets how many jobs of each client may run at a time, or lets any number run.
+    pub(crate) fn set_client_limit(&mut self, limit: Option<usize>)
+        requires { IfSome limit (λ most. 0 < most) }
+        ensures { self.new ≡ with_client_limit limit self.old }
+    {
+        self.pool.set_client_limit(limit);
+    }
+
     // The pool itself.
     pub(crate) fn pool(&self) -> &Pool<Ticket>
         ensures { result.now ≡ self.now }
@@ -382,24 +394,27 @@ impl Tickets {
         }
     }
 
-    // A free worker takes every queued job, and ends it as done.
+    // A free worker takes every queued job, and ends it as done. No client limit is set from then on, so that each is ready.
     fn clear_queue<S: Starter>(&mut self, mut pass: WorkerPass, starter: &mut S) -> WorkerPass
         requires valued { AreValued self.old.jobs }
         requires free { self.old.counts.arriving < self.old.counts.idle }
         ensures empty { self.new.queue ≡ [] }
         ensures passed { PassesOver self.old self.new }
     {
+        self.set_client_limit(None);
         while self.pool.queue_len() > 0 {
             pass = self.pass_over(pass, starter);
         }
         pass
     }
 
-    // A free worker takes the front job, if there is one, and ends it as done.
+    // A free worker takes the first ready job, if there is one, and ends it as done.
     fn pass_over<S: Starter>(&mut self, pass: WorkerPass, starter: &mut S) -> WorkerPass
         requires valued { AreValued self.old.jobs }
         requires free { self.old.counts.arriving < self.old.counts.idle }
-        ensures shorter { length self.new.queue ≡ length self.old.queue - 1 }
+        ensures limit { self.new.client_limit ≡ self.old.client_limit }
+        ensures shorter { self.old.client_limit ≡ None →
+            length self.new.queue ≡ length self.old.queue - 1 }
         ensures passed { PassesOver self.old self.new }
     {
         let (took, _growth) = self.take(pass, starter);

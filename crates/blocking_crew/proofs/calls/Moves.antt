@@ -1,7 +1,8 @@
 -- Each call of a crew is a move, by what its parts did.
-use Rattle.std.proofs.Common.{◌≡◌, ◌-◌, ◌<◌, nat_lt, ℕ, Bool, true, false, List, if◌then◌else◌, ap, refl, ◌∙◌, arith, Option, Some, None}
+use Rattle.std.proofs.Common.{◌≡◌, ◌-◌, ◌<◌, nat_lt, ℕ, Bool, true, false, List, if◌then◌else◌, ap, refl, ◌∙◌, arith, Option, Some, None, IfSome}
 use Rattle.std.proofs.lemmas.List.{set-set}
 use Rattle.std.proofs.lemmas.Bool.Decides.{nat_tests}
+use Rattle.blocking_laws.specs.Steps.{may_limit}
 use Rattle.blocking_crew.proofs.Types.{Took, Drop, Idle, Run, WorkerPass, Act, Arrived, Event, Pool, Worker, Hand, Free, Holds, Out, Held, Stage, Ticket}
 use Rattle.blocking_crew.proofs.Words.{after_arrival, Growth, Crew, may_act, is_waiting, hand_at, with_hand, hand_of, is_free_hand, pass_in, held_if, acting_in, hand_after_act, Joins, IsReady, Call, Arrive, Take, Work, Idles, Arrives, TakesJob, TakesNone, Works, next_start, seen, nothing, named, job_of_take, act_of_take, hand_after_take, has_action, Moves, no_growth, JobPool, TakesTo}
 use Rattle.blocking_crew.specs.declared.hand.Stage.TheVariants as stage
@@ -20,6 +21,11 @@ idles may_answer call crew hands none same start event = record {
   event_is = event ∙ ap (nothing (named call)) start;
   after_is = ap (λ (row : List Hand). record crew { hands = row }) same;
 }
+
+-- a client limit that may be set lets one job run
+pub limit_above : (limit : Option ℕ) → may_limit limit ≡ true → IfSome limit (λ most. 0 < most)
+limit_above None may = tt
+limit_above (Some most) may = grind (arith, nat_tests, may)
 
 -- a worker that isn't idle neither takes nor waits
 pub no_pass : (hand : Hand) → None ≡ pass_in hand → is_free_hand hand ≡ false

@@ -1,10 +1,18 @@
--- A free worker passes over the jobs of a queue.
-use Rattle.std.proofs.Common.{◌≡◌, ◌⊎◌, ℕ, ◌+◌, ◌-◌, ◌<◌, Bool, true, false, ap, ◌∙◌, subst, refl, inl, inr, arith, Option, None}
+-- A free worker passes over the ready jobs of a queue, and where no client limit is set they are all its jobs.
+use Rattle.std.proofs.Common.{◌≡◌, ◌⊎◌, ℕ, ◌+◌, ◌-◌, ◌<◌, Bool, true, false, [], length, ap, ◌∙◌, sym, subst, refl, inl, inr, arith, Option, None}
 use Rattle.std.proofs.lemmas.Bool.{cond_both}
 use Rattle.std.specs.FinMap.{get, insert, remove}
+use Rattle.blocking_pool.proofs.ReadyLemmas.{all_ready}
 use Rattle.blocking_crew.proofs.Types.{Took, Drop, Run, Ticket}
-use Rattle.blocking_crew.proofs.Words.{Counts, after_pickup, after_release, Growth, after_growth, JobNumber, Job, Jobs, entry_after_take, is_running_as, without_job, PassesOver, JobPool, TakesFront, TakesTo, is_due_to_sweep, is_valued, AreValued}
+use Rattle.blocking_crew.proofs.Words.{Counts, after_pickup, after_release, Growth, after_growth, JobNumber, Job, Jobs, ready, without, entry_after_take, is_running_as, without_job, PassesOver, JobPool, TakesFront, TakesTo, is_due_to_sweep, is_valued, AreValued, with_client_limit}
 use Rattle.blocking_crew.proofs.jobs.Lookups.{job_put, job_out, taken_runs as taken_runs_in}
+
+-- where no job is ready, and no client limit is set, none is queued
+pub idle_shorter : (old new : JobPool) → ready old ≡ [] → new ≡ old → old.client_limit ≡ None → length new.queue ≡ length old.queue - 1
+idle_shorter old new none same free =
+    let empty : length old.queue ≡ 0 = ap length (sym (all_ready old free) ∙ none) in
+    let kept : length new.queue ≡ length old.queue = ap (λ (p : JobPool). length p.queue) same in
+    omega (arith, empty, kept)
 
 -- a worker that took a job took the front one
 pub takes_front : (may_answer : ℕ → Bool → Type 0) (old between : JobPool) (took : Took Ticket) (number : JobNumber) (seen : Growth)
@@ -37,6 +45,17 @@ module _ (may_answer : ℕ → Bool → Type 0) (old between new : JobPool) (num
     ended_counts : new.counts ≡ after_release (after_growth (after_pickup old.counts) seen)
     ended_counts = ap (λ (p : JobPool). p.counts) ended ∙ ap after_release taken_counts
 
+    -- the queue is shorter then
+    pub took_shorter : length new.queue ≡ length old.queue - 1
+    took_shorter =
+        let left : new.queue ≡ without number.serial old.queue = ap (λ (p : JobPool). p.queue) ended ∙ ap (λ (p : JobPool). p.queue) takes.after_is in
+        let fewer : length new.queue ≡ length (without number.serial old.queue) = ap length left in
+        let once = takes.once in
+        omega (arith, fewer, once)
+
+    pub same_limit : new.client_limit ≡ old.client_limit
+    same_limit = ap (λ (p : JobPool). p.client_limit) ended ∙ ap (λ (p : JobPool). p.client_limit) takes.after_is
+
     -- a job that is taken and ended is passed over
     pub passed_over : AreValued old.jobs → old.counts.arriving < old.counts.idle → PassesOver old new
     passed_over valued free =
@@ -48,3 +67,20 @@ module _ (may_answer : ℕ → Bool → Type 0) (old between new : JobPool) (num
           level = omega arith;
           due = λ none s. ap (λ (jobs : Jobs Ticket). is_due_to_sweep (get jobs s)) ended_jobs ∙ passed_at is_due_to_sweep false old.jobs number.serial (entry_after_take takes.job) s refl (none s);
         }
+
+-- what was passed over where a client limit was taken away first
+pub passed_unlimited : (old free new : JobPool) → free ≡ with_client_limit None old → PassesOver free new → PassesOver old new
+passed_unlimited old free new is passed =
+    let same = rw is at passed in
+    record { valued = same.valued; free = same.free; level = same.level; due = same.due }
+
+-- what was passed over after that
+pub passes_on : (old between new : JobPool) → PassesOver old between → PassesOver between new → PassesOver old new
+passes_on old between new first next =
+    let before = first.level in
+    let after = next.level in
+    record { valued = next.valued; free = next.free; level = omega (arith, before, after); due = λ none. next.due (first.due none) }
+
+-- nothing was passed over yet
+pub passes_none : (pool : JobPool) → AreValued pool.jobs → pool.counts.arriving < pool.counts.idle → PassesOver pool pool
+passes_none pool valued free = record { valued = valued; free = free; level = refl; due = λ none. none }

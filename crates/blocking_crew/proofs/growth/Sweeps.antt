@@ -1,11 +1,11 @@
 -- What sweeps and waits do, with the growth that was read.
-use Rattle.std.proofs.Common.{◌≤◌, ◌≡◌, ℕ, ◌+◌, ◌<◌, arith, ◌∙◌, Bool, true, false, List, [], length, ap, subst, sym, refl, ◌&&◌, Option}
+use Rattle.std.proofs.Common.{◌≤◌, ◌≡◌, ℕ, ◌+◌, ◌<◌, arith, ◌∙◌, Bool, true, false, List, [], ◌∷◌, length, ap, subst, sym, refl, ◌&&◌, Option}
 use Rattle.std.proofs.lemmas.List.Elements.{filter_agree}
 use Rattle.blocking_crew.proofs.Types.{Waited, Stay, Stop, WorkerPass, Ticket}
-use Rattle.blocking_crew.proofs.Words.{limit_of, greatest, Asking, Growth, number_after, Job, Jobs, jobs_after_requeue, is_parked_job, StaysOrStops, IsSound, serials_below, AreAsked, swept, joined, NoneDue, no_growth, JobPool, is_due_to_sweep, to_sweep, AreValued, SweepsTo, SweepsIf, WaitsSo}
+use Rattle.blocking_crew.proofs.Words.{limit_of, greatest, Asking, Growth, number_after, Job, Jobs, jobs_after_requeue, is_parked_job, StaysOrStops, IsSound, ready, serials_below, AreAsked, swept, joined, NoneDue, no_growth, JobPool, is_due_to_sweep, to_sweep, AreValued, SweepsTo, SweepsIf, WaitsSo}
 use Rattle.std.specs.FinMap as map
 use Rattle.blocking_pool.specs.PoolAnswers.{Sweeps as CoreSweeps, SweepsTo as CoreSweepsTo, SweepsIf as CoreSweepsIf, Waits as CoreWaits}
-use Rattle.blocking_crew.proofs.growth.Calls.{is_marked_so}
+use Rattle.blocking_crew.proofs.growth.Calls.{is_marked_so, enters_again}
 use Rattle.blocking_crew.proofs.growth.Reads.{IsRead, numbers_last}
 use Rattle.blocking_crew.proofs.jobs.Tickets.{swept_valued, none_due, sweeps_nothing}
 
@@ -17,8 +17,9 @@ none_again : (asking : Asking) (old new : JobPool) (serials : List ℕ) → leng
 none_again asking old new serials none effect = grind arith
 
 some_again : (asking : Asking) (old new : JobPool) (serials : List ℕ) (seen : Growth) → (length serials ≡ 0 → ⊥) → CoreSweepsTo asking old serials new
-    → IsRead (length new.queue) old.counts.workers (limit_of old.counts) new.counts seen → SweepsTo asking.may_answer old serials seen new
-some_again asking old new serials seen some effect read = grind arith
+    → IsRead (length (ready new)) old.counts.workers (limit_of old.counts) new.counts seen → SweepsTo asking.may_answer old serials seen new
+some_again asking old new [] seen some effect read = absurd (some refl)
+some_again asking old new (serial ∷ serials) seen some effect read = enters_again asking old new (serial ∷ serials) seen effect read
 
 -- ---- what a sweep leaves
 
@@ -41,6 +42,9 @@ sweep_level timed_out may_answer old new growth sweeps = grind arith
 
 pub sweep_serial : (timed_out : Bool) (may_answer : ℕ → Bool → Type 0) (old new : JobPool) (growth : Growth) → SweepsIf timed_out may_answer old growth new → new.next_serial ≡ old.next_serial
 sweep_serial timed_out may_answer old new growth sweeps = grind arith
+
+pub sweep_limit : (timed_out : Bool) (may_answer : ℕ → Bool → Type 0) (old new : JobPool) (growth : Growth) → SweepsIf timed_out may_answer old growth new → new.client_limit ≡ old.client_limit
+sweep_limit timed_out may_answer old new growth sweeps = grind arith
 
 -- What a sweep does: these are put back, each job that doesn't run has its ticket, and none is due any more.
 pub record HasSwept (may_answer : ℕ → Bool → Type 0) (old : JobPool) (told : ℕ) (growth : Growth) (new : JobPool) : Type 0 where
@@ -67,7 +71,7 @@ module _ (asking : Asking) (old new : JobPool) (count : ℕ) (valued : AreValued
   pub swept_none : IsSound old → count ≡ 0 → HasSwept asking.may_answer old count no_growth new
   swept_none sound none = has_swept no_growth sound (none_again asking old new (to_sweep old) (sym told ∙ none) sweeps_so)
 
-  pub swept_some : (seen : Growth) → IsSound old → (count ≡ 0 → ⊥) → IsRead (length new.queue) old.counts.workers (limit_of old.counts) new.counts seen → HasSwept asking.may_answer old count seen new
+  pub swept_some : (seen : Growth) → IsSound old → (count ≡ 0 → ⊥) → IsRead (length (ready new)) old.counts.workers (limit_of old.counts) new.counts seen → HasSwept asking.may_answer old count seen new
   swept_some seen sound some read = has_swept seen sound (some_again asking old new (to_sweep old) seen (λ none. some (told ∙ none)) sweeps_so read)
 
 -- ---- waits

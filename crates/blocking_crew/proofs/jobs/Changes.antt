@@ -18,7 +18,7 @@ abbrev pub of_one : ℕ → (Option (Entry Ticket) → Option (Entry Ticket)) �
 of_one t becomes = record { which = λ s. t == s; becomes = becomes }
 
 abbrev pub change_of : Crew → Move → Change
-change_of crew (Adds who (Ok number) growth pool) = of_one number.serial (λ found. Some (new_job number.place new_ticket))
+change_of crew (Adds who client (Ok number) growth pool) = of_one number.serial (λ found. Some (new_job number.place client new_ticket))
 change_of crew (TakesJob v old to_drop turn ticket growth pool) = of_one turn.serial (option_map entry_after_take)
 change_of crew (EndsTurn v held pass) = of_one held.turn.serial (λ found. None)
 change_of crew (Parks v held ticket (parking.Parked pass) pool) = of_one held.turn.serial (option_map (entry_after_park ticket))
@@ -39,10 +39,10 @@ swept_at late may_answer old new growth s sweeps = grind (arith, left_by, job_re
 -- a job after a move
 pub found_after : (may_answer : ℕ → Bool → Type 0) (crew : Crew) (move : Move) (s : ℕ) → May may_answer crew move
     → get (after crew move).pool.jobs s ≡ (if (change_of crew move).which s then (change_of crew move).becomes (get crew.pool.jobs s) else get crew.pool.jobs s)
-found_after may_answer crew (Adds who (Ok number) growth pool) s may = rw (may.after_is, may.serial) (job_put crew.pool.jobs crew.pool.next_serial (new_job number.place new_ticket) s (crew.pool.next_serial == s) refl)
-found_after may_answer crew (Adds who (Err Memory) growth pool) s may = ap (λ (p : JobPool). get p.jobs s) may.1
-found_after may_answer crew (Adds who (Err Numbers) growth pool) s may = ap (λ (p : JobPool). get p.jobs s) may.2
-found_after may_answer crew (Adds who (Err NoWorker) growth pool) s may = ap (λ (p : JobPool). get p.jobs s) may.after_is
+found_after may_answer crew (Adds who client (Ok number) growth pool) s may = rw (may.after_is, may.serial) (job_put crew.pool.jobs crew.pool.next_serial (new_job number.place client new_ticket) s (crew.pool.next_serial == s) refl)
+found_after may_answer crew (Adds who client (Err Memory) growth pool) s may = ap (λ (p : JobPool). get p.jobs s) may.1
+found_after may_answer crew (Adds who client (Err Numbers) growth pool) s may = ap (λ (p : JobPool). get p.jobs s) may.2
+found_after may_answer crew (Adds who client (Err NoWorker) growth pool) s may = ap (λ (p : JobPool). get p.jobs s) may.after_is
 found_after may_answer crew (TakesJob v old to_drop turn ticket growth pool) s may =
     ap (λ (p : JobPool). get p.jobs s) may.1.after_is ∙ job_changed crew.pool.jobs turn.serial entry_after_take s (Some may.1.job) may.1.found
 found_after may_answer crew (EndsTurn v held pass) s may = job_out crew.pool.jobs held.turn.serial s (held.turn.serial == s) refl

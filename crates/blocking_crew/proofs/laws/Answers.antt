@@ -2,14 +2,16 @@
 use Rattle.std.proofs.Common.{[], ◌≡◌, ◌<◌, ◌==◌, ◌+◌, ◌&&◌, ◌||◌, nat_lt, ℕ, Bool, true, if◌then◌else◌, List, length, refl, sym, ap, ap₂, ◌∙◌, subst, arith, Option, Some, None, Ok, Err}
 use Rattle.std.specs.FinMap.{get}
 use Rattle.blocking_crew.proofs.Types.{Memory, NoWorker, Numbers, Stay, Stop, Standing, Ended, TookDropped, Moment, Worker, WaitEnd, Step, Holds, Held, Stage, Ticket, Parking}
-use Rattle.blocking_crew.proofs.Words.{limit_of, greatest, Growth, limit_after, JobNumber, Job as Entry, is_empty, must_stop, wake_of, cancel_of, take_from, take_answer, end_of, end_answer, PoolAnswers, AnswerLaw, workers, limit, IsPlanned, is_woken, is_marked, is_to_drop, seen_to_sweep, queue, joined, has_timed_out, turn, Crew, may_end, outcome_of, standing_after, hand_at, Move, Adds, Arrives, TakesJob, TakesNone, Works, EndsTurn, Parks, HasWaited, Sweeps, IsWoken, IsCancelled, IsLetGo, Tells, call_of, next_start, took_act, parked_act, May, no_growth, JobPool, TakesFront, SweepsIf, ParksTo, ParksSo, ValueAs, FiledAs, FiledHere, turn_of, CrewHolds, moment_of, IsAsked}
+use Rattle.blocking_crew.proofs.Words.{limit_of, greatest, Growth, limit_after, JobNumber, Job as Entry, is_empty, must_stop, wake_of, cancel_of, take_from, take_answer, end_of, end_answer, PoolAnswers, AnswerLaw, workers, limit, IsPlanned, is_woken, is_cancelled, is_marked, has_ended, is_to_drop, standing, first_of, seen_to_sweep, queue, joined, has_timed_out, turn, Crew, may_end, outcome_of, standing_after, hand_at, Move, Adds, Arrives, TakesJob, TakesNone, Works, EndsTurn, Parks, HasWaited, Sweeps, IsWoken, IsCancelled, IsLetGo, Tells, call_of, next_start, took_act, parked_act, May, no_growth, JobPool, TakesFront, SweepsIf, ParksTo, ParksSo, ValueAs, FiledAs, FiledHere, turn_of, CrewHolds, moment_of, IsAsked}
+use Rattle.blocking_laws.specs.Queue.{ready as ready_by_law}
+use Rattle.blocking_laws.proofs.Queues.{answer_of_first}
 use Rattle.blocking_laws.specs.declared.event.Act.TheVariants.{Took}
 use Rattle.blocking_crew.specs.declared.hand.Stage.TheVariants as stage
 use Rattle.blocking_crew.specs.declared.tickets.Parking.TheVariants as parking
 use Rattle.blocking_crew.proofs.jobs.Lookups.{found_at}
 use Rattle.blocking_crew.proofs.ties.Acts.{plain, aside_plain, by_work, by_let_go}
 use Rattle.blocking_crew.proofs.ties.Flows.{workers_now, swept}
-use Rattle.blocking_crew.proofs.ties.Standings.{met}
+use Rattle.blocking_crew.proofs.ties.Standings.{met, front_filed, ready_seen}
 use Rattle.blocking_crew.proofs.ties.Sweeps.{sweep_same}
 
 -- ---- takes
@@ -41,7 +43,14 @@ none_left ns = grind arith
 
 module _ (setting : ℕ) (plan : List Bool) (crew : Crew) (past : List Moment) (step : Step) (owner : Option ℕ) (h : CrewHolds setting plan crew past) where
   take_is : (number : JobNumber) (value : Ticket) (to_drop : Bool) (growth : Growth) (pool : JobPool) → TakesFront (IsPlanned plan) crew.pool number value to_drop growth pool → took_act to_drop number.serial ≡ take_answer past
-  take_is number value to_drop growth pool front = grind arith
+  take_is number value to_drop growth pool front =
+      let s = number.serial in
+      let drop : to_drop ≡ is_to_drop past s =
+      front.wanted
+      ∙ to_drop_is front.job (standing past s) (is_woken past s) (is_cancelled past s) (is_marked past s) (has_ended past s) value front.value_is
+      (front_filed setting plan crew past h (IsPlanned plan) number value to_drop growth pool front) in
+      took_if to_drop s ∙ ap (λ (b : Bool). if b then TookDropped s else Took s) drop
+      ∙ sym (answer_of_first past s (ready_by_law past) (ap first_of (sym (ready_seen setting plan crew past h)) ∙ front.front))
 
   ends : (held : Held) (v : ℕ) → hand_at crew.hands v ≡ Holds held → may_end held.stage ≡ true → Ended held.turn.serial (standing_after (outcome_of held.stage)) ≡ end_answer past held.turn.serial
   ends held v at may = rw (h.tied.handed.turn_is v held at) (end_is held.stage (is_to_drop past held.turn.serial) (is_woken past held.turn.serial) held.turn.serial may)
@@ -82,16 +91,16 @@ module _ (setting : ℕ) (plan : List Bool) (crew : Crew) (past : List Moment) (
       ap₂ (λ (a b : Bool). a || has_timed_out end && b) (ap₂ nat_lt most hired) (ap (λ (ns : List ℕ). length ns == 0) (sym line) ∙ none_left between.queue)
 
   -- Each move is answered as the law of answers says.
-  pub answer_law : (move : Move) → May (IsPlanned plan) crew move → IsAsked crew past (call_of move) → AnswerLaw setting past (moment_of crew move step owner)
-  answer_law (Adds who (Ok number) growth pool) may asked = (may.serial ∙ h.tied.numbered.next, subst (λ (s : ℕ). s < greatest) (sym may.serial) may.left)
-  answer_law (Adds who (Err NoWorker) growth pool) may asked = subst (λ (s : ℕ). s < greatest) h.tied.numbered.next may.left
-  answer_law (Adds who (Err Numbers) growth pool) may asked = sym h.tied.numbered.next ∙ may.0
-  answer_law (Adds who (Err Memory) growth pool) may asked = subst (λ (s : ℕ). s < greatest) h.tied.numbered.next may.2
+  pub answer_law : (move : Move) → May (IsPlanned plan) crew move → IsAsked crew past step (call_of move) → AnswerLaw setting past (moment_of crew move step owner)
+  answer_law (Adds who c (Ok number) growth pool) may asked = (may.serial ∙ h.tied.numbered.next, subst (λ (s : ℕ). s < greatest) (sym may.serial) may.left)
+  answer_law (Adds who c (Err NoWorker) growth pool) may asked = subst (λ (s : ℕ). s < greatest) h.tied.numbered.next may.left
+  answer_law (Adds who c (Err Numbers) growth pool) may asked = sym h.tied.numbered.next ∙ may.0
+  answer_law (Adds who c (Err Memory) growth pool) may asked = subst (λ (s : ℕ). s < greatest) h.tied.numbered.next may.2
   answer_law (Arrives pass) may asked =
       let hands = h.tied.counted.hands_are in let arriving = h.tied.counted.arriving_are in (omega (arith, hands), omega (arith, hands, arriving, may))
   answer_law (TakesJob v old to_drop number ticket growth pool) may asked =
       took_rightly setting past (moment_of crew (TakesJob v old to_drop number ticket growth pool) step owner) to_drop number.serial (take_is number ticket to_drop growth pool may.1)
-  answer_law (TakesNone v old pass) may asked = ap (take_from past) (sym may.1 ∙ h.tied.lined)
+  answer_law (TakesNone v old pass) may asked = ap (take_from past) (sym may.1 ∙ ready_seen setting plan crew past h)
   answer_law (Works v held act) may asked =
       by_work (λ at act. AnswerLaw setting past (moment_of crew (Works v held act) step owner))
       (λ at act is same fits. (plain setting past step owner (Worker v) (Some held.turn.serial) (next_start crew) no_growth act is).answered) tt (λ w. tt) held.stage act may.1

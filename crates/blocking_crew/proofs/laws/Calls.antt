@@ -5,11 +5,12 @@ use Rattle.blocking_crew.proofs.Words.{JobNumber, IsPlanned, standing, Crew, Cal
 use Rattle.blocking_crew.proofs.laws.Service.{served_after}
 use Rattle.blocking_crew.proofs.ties.Numbers.{number_after, number_of_new}
 
-module _ (setting : ℕ) (plan : List Bool) (crew new : Crew) (past : List Moment) (call : Call) (e : Event) (h : CrewHolds setting plan crew past) (moves : Moves (IsPlanned plan) call crew e new) (asked : IsAsked crew past call) where
+module _ (setting : ℕ) (plan : List Bool) (crew new : Crew) (past : List Moment) (call : Call) (e : Event) (h : CrewHolds setting plan crew past) (moves : Moves (IsPlanned plan) call crew e new) where
   -- Queued jobs are served, or the last start was refused.
-  pub served_moved : (step : Step) (owner : Option ℕ) → Served setting past → Served setting (seen_as step e owner ∷ past)
-  served_moved step owner s =
-      subst (λ (f : Event). Served setting (seen_as step f owner ∷ past)) (sym moves.event_is) (served_after setting plan crew past step owner h s moves.move moves.may)
+  pub served_moved : (step : Step) (owner : Option ℕ) → IsAsked crew past step call → Served setting past → Served setting (seen_as step e owner ∷ past)
+  served_moved step owner asked s =
+      subst (λ (f : Event). Served setting (seen_as step f owner ∷ past)) (sym moves.event_is)
+      (served_after setting plan crew past step owner h s moves.move moves.may (subst (IsAsked crew past step) moves.call_is asked))
 
   -- The number of a job that was accepted stays its number.
   pub number_moved : (number : JobNumber) → is_some (standing past number.serial) ≡ true → IsNumberOf crew.pool number → IsNumberOf new.pool number
@@ -17,9 +18,9 @@ module _ (setting : ℕ) (plan : List Bool) (crew new : Crew) (past : List Momen
 
 -- ---- a new job
 
-new_by : (plan : List Bool) (crew : Crew) (party : Party) (number : JobNumber) (move : Move) → Add party (Ok number) ≡ call_of move → May (IsPlanned plan) crew move → IsNumberOf (after crew move).pool number
-new_by plan crew party number move is may = grind (arith, number_of_new)
+new_by : (plan : List Bool) (crew : Crew) (party : Party) (client : ℕ) (number : JobNumber) (move : Move) → Add party client (Ok number) ≡ call_of move → May (IsPlanned plan) crew move → IsNumberOf (after crew move).pool number
+new_by plan crew party client number move is may = grind (arith, number_of_new)
 
 -- The number that a new job gets is its number.
-pub number_new : (plan : List Bool) (crew new : Crew) (party : Party) (number : JobNumber) (e : Event) → Moves (IsPlanned plan) (Add party (Ok number)) crew e new → IsNumberOf new.pool number
-number_new plan crew new party number e moves = grind (arith, new_by)
+pub number_new : (plan : List Bool) (crew new : Crew) (party : Party) (client : ℕ) (number : JobNumber) (e : Event) → Moves (IsPlanned plan) (Add party client (Ok number)) crew e new → IsNumberOf new.pool number
+number_new plan crew new party client number e moves = grind (arith, new_by)

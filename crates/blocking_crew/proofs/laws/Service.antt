@@ -1,9 +1,13 @@
--- Where jobs are queued and no worker is left, the last start that was tried was refused.
-use Rattle.std.proofs.Common.{◌≡◌, ◌<◌, ◌≤◌, ◌+◌, ◌-◌, ◌&&◌, ◌||◌, nat_lt, ℕ, Bool, true, false, List, [], ◌∷◌, length, refl, sym, ap, ◌∙◌, subst, arith, Option, inl, inr}
+-- Where jobs are queued and no worker is left, the last start that was tried was refused: no job runs then, so that each is ready.
+use Rattle.std.proofs.Common.{◌≡◌, ◌<◌, ◌≤◌, ◌+◌, ◌-◌, ◌&&◌, ◌||◌, nat_lt, ℕ, Bool, true, false, List, [], ◌∷◌, length, refl, sym, ap, ◌∙◌, subst, arith, Option, IfSome, inl, inr}
 use Rattle.std.proofs.lemmas.Bool.Decides.{nat_tests}
 use Rattle.blocking_crew.proofs.Types.{Stop, WorkerPass, Moment, WaitEnd, Step}
-use Rattle.blocking_crew.proofs.Words.{Counts, limit_of, Growth, limit_after, is_empty, workers, limit_by, limit, grows, turned_away, IsPlanned, queue, has_timed_out, Crew, Move, Arrives, HasWaited, SetsLimit, event_of, after, May, JobPool, GrowsBy, Served, CrewHolds, moment_of}
+use Rattle.blocking_crew.proofs.Words.{Counts, limit_of, Growth, limit_after, is_empty, workers, limit_by, limit, grows, turned_away, IsPlanned, ready, running, has_timed_out, Crew, Move, Arrives, HasWaited, SetsLimit, SetsClientLimit, call_of, event_of, after, May, JobPool, GrowsBy, Limited, Served, CrewHolds, moment_of, IsAsked}
+use Rattle.blocking_laws.specs.Queue.{ready as ready_by_law}
 use Rattle.blocking_laws.specs.Served.{last_refused, last_refused_by}
+use Rattle.blocking_laws.proofs.Queues.{ready_beside_none}
+use Rattle.blocking_crew.proofs.laws.Growth.{ready_after}
+use Rattle.blocking_crew.proofs.ties.Clients.{client_limit_after}
 use Rattle.blocking_crew.proofs.ties.Counts.{counts_after}
 use Rattle.blocking_crew.proofs.ties.Flows.{Flow, flows, growth_in, workers_now, swept}
 use Rattle.blocking_crew.proofs.ties.Queue.{queue_after}
@@ -18,6 +22,10 @@ positive_grown r l n positive = grind arith
 some_queued : (ns : List ℕ) → (ns ≡ [] → ⊥) → 0 < length ns
 some_queued [] some = absurd (some refl)
 some_queued (n ∷ ns) some = omega arith
+
+none_left : (ns : List ℕ) → length ns ≡ 0 → ns ≡ []
+none_left [] none = refl
+none_left (n ∷ ns) none = absurd (omega (arith, none))
 
 -- so where the pool has grown and no worker is there, the next start was refused
 grew_none : (may_answer : ℕ → Bool → Type 0) (ready : ℕ) (counts : Counts) (growth : Growth) → GrowsBy may_answer ready counts growth → 0 < ready → 0 < limit_of counts → counts.idle ≤ counts.workers
@@ -36,18 +44,28 @@ module _ (setting : ℕ) (plan : List Bool) (crew : Crew) (past : List Moment) (
   positive = rw h.tied.counted.limit_is s.positive
 
   -- where no worker stops
-  served_by : (last : Moment) (new : Crew) → Flow setting plan crew past step owner h 0 last new → (new.pool.queue ≡ [] → ⊥) → new.pool.counts.workers ≡ 0 → last_refused (last ∷ past) ≡ true
-  served_by last new f some none = by (grows past last.event.act) refl
+  served_by : (last : Moment) (new : Crew) → Flow setting plan crew past step owner h 0 last new → ready new.pool ≡ ready_by_law (last ∷ past) → Limited new.pool (last ∷ past) → (new.pool.queue ≡ [] → ⊥)
+      → new.pool.counts.workers ≡ 0 → last_refused (last ∷ past) ≡ true
+  served_by last new f same limited some none = by (grows past last.event.act) refl
     where
       nobody : crew.pool.counts.workers + last.event.started ≡ 0
       nobody = let hired = f.grew.workers in omega (arith, hired, none)
 
+      none_runs : running (last ∷ past) ≡ []
+      none_runs = let balance = f.balance in none_left (running (last ∷ past)) (omega (arith, nobody, balance))
+
+      all_ready : ready new.pool ≡ new.pool.queue
+      all_ready =
+          same
+          ∙ ready_beside_none (last ∷ past) none_runs (subst (λ (most : Option ℕ). IfSome most (λ n. 0 < n)) limited.limit_is limited.positive)
+          ∙ sym f.lined
+
       by : (b : Bool) → grows past last.event.act ≡ b → last_refused_by last.event.started last.event.start_refused (last_refused past) ≡ true
       by true is =
           let balance = f.balance in
-          let more = some_queued (queue (last ∷ past)) (λ empty. some (f.lined ∙ empty)) in
+          let more = some_queued (ready new.pool) (λ empty. some (sym all_ready ∙ empty)) in
           ap (λ c. last_refused_by last.event.started c (last_refused past))
-          (grew_none (IsPlanned plan) (length (queue (last ∷ past)) + turned_away last.event.act) (record crew.pool.counts { idle = f.free }) (growth_in last) (f.starts is)
+          (grew_none (IsPlanned plan) (length (ready new.pool) + turned_away past last last.event.act) (record crew.pool.counts { idle = f.free }) (growth_in last) (f.starts is)
           (omega (arith, more)) positive (omega (arith, balance)) nobody)
       by false is =
           elim (f.queued is) [
@@ -74,18 +92,21 @@ module _ (setting : ℕ) (plan : List Bool) (crew : Crew) (past : List Moment) (
       some (ap (λ (p : JobPool). p.queue) may.1.answer.1 ∙ empty)
 
   -- who serves the queue after a move
-  service : (move : Move) → May (IsPlanned plan) crew move → ((after crew move).pool.queue ≡ [] → ⊥) → (after crew move).pool.counts.workers ≡ 0 → last_refused (moment_of crew move step owner ∷ past) ≡ true
-  service (Arrives pass) may some none = before some none
-  service (SetsLimit n) may some none = before some none
-  service (HasWaited v pass end Stop growth pool) may some none = absurd (stops v pass end growth pool may some none)
-  service move may some none = served_by (moment_of crew move step owner) (after crew move) (flows setting plan crew past step owner h move may refl) some none
+  service : (move : Move) → May (IsPlanned plan) crew move → IsAsked crew past step (call_of move) → ((after crew move).pool.queue ≡ [] → ⊥) → (after crew move).pool.counts.workers ≡ 0 → last_refused (moment_of crew move step owner ∷ past) ≡ true
+  service (Arrives pass) may asked some none = before some none
+  service (SetsLimit n) may asked some none = before some none
+  service (SetsClientLimit limit) may asked some none = before some none
+  service (HasWaited v pass end Stop growth pool) may asked some none = absurd (stops v pass end growth pool may some none)
+  service move may asked some none =
+      served_by (moment_of crew move step owner) (after crew move) (flows setting plan crew past step owner h move may asked refl) (ready_after setting plan crew past step owner h move may asked)
+      (client_limit_after setting plan crew past step owner h move may) some none
 
   -- Each move leaves queued jobs served, or the last start refused.
-  pub served_after : (move : Move) → May (IsPlanned plan) crew move → Served setting (moment_of crew move step owner ∷ past)
-  served_after move may =
-      let e = (counts_after setting plan crew past step owner h move may).workers_are in
+  pub served_after : (move : Move) → May (IsPlanned plan) crew move → IsAsked crew past step (call_of move) → Served setting (moment_of crew move step owner ∷ past)
+  served_after move may asked =
+      let e = (counts_after setting plan crew past step owner h move may asked).workers_are in
       let hired : (after crew move).pool.counts.workers ≡ workers (moment_of crew move step owner ∷ past) = omega (arith, e) in
       record {
         positive = positive_grown (event_of crew move).start_refused (limit_by (event_of crew move).act (limit setting past)) (workers past + (event_of crew move).started) (acts move may);
-        served = λ some none. service move may (λ f. some (sym (queue_after setting plan crew past step owner h move may) ∙ f)) (hired ∙ none);
+        served = λ some none. service move may asked (λ f. some (sym (queue_after setting plan crew past step owner h move may asked) ∙ f)) (hired ∙ none);
       }

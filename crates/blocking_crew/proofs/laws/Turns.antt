@@ -27,7 +27,7 @@ module _ (setting : ℕ) (plan : List Bool) (crew : Crew) (past : List Moment) (
 
   -- The law of turns holds at each move.
   pub turn_law : (move : Move) → May (IsPlanned plan) crew move → TurnLaw past (moment_of crew move step owner)
-  turn_law (Adds who (Ok number) growth pool) may = record { one = tt; acts = tt }
+  turn_law (Adds who c (Ok number) growth pool) may = record { one = tt; acts = tt }
   turn_law (TakesJob v old true number ticket growth pool) may = record { one = taken v old number ticket true growth pool may.0 may.1; acts = tt }
   turn_law (TakesJob v old false number ticket growth pool) may = record { one = taken v old number ticket false growth pool may.0 may.1; acts = tt }
   turn_law (Works v held act) may = works v held act may

@@ -1,5 +1,5 @@
 -- Whatever a crew does, it hangs together with what was seen, and the law of the pool holds.
-use Rattle.std.proofs.Common.{[], ◌||◌, ◌≡◌, ℕ, List, ◌∷◌, Bool, true, false, refl, sym, ap, ◌∙◌, subst, Option, None, ◌==◌, arith}
+use Rattle.std.proofs.Common.{[], ◌||◌, ◌≡◌, ℕ, List, ◌∷◌, Bool, true, false, refl, sym, ap, ◌∙◌, subst, Option, Some, None, ◌==◌, arith}
 use Rattle.std.proofs.lemmas.Bool.{cond_both}
 use Rattle.std.specs.Ordering.{nat_cmp}
 use Rattle.blocking_crew.proofs.Types.{Act, Event, Moment, Step, Out}
@@ -13,6 +13,7 @@ use Rattle.blocking_crew.proofs.laws.Turns.{turn_law}
 use Rattle.blocking_crew.proofs.ready.Changes.{no_hand, empty_ready}
 use Rattle.blocking_crew.proofs.ready.Moves.{ready_after}
 use Rattle.blocking_crew.proofs.ties.Acts.{now_with}
+use Rattle.blocking_crew.proofs.ties.Clients.{clients_after, client_limit_after}
 use Rattle.blocking_crew.proofs.ties.Counts.{counts_after}
 use Rattle.blocking_crew.proofs.ties.Hands.{hands_after}
 use Rattle.blocking_crew.proofs.ties.Jobs.{jobs_after}
@@ -25,26 +26,28 @@ aside_is act is = grind arith
 
 module _ (setting : ℕ) (plan : List Bool) (crew : Crew) (past : List Moment) (h : CrewHolds setting plan crew past) where
   -- After each move the crew hangs together with what was seen.
-  pub tied_after : (move : Move) (step : Step) (owner : Option ℕ) → May (IsPlanned plan) crew move → IsAsked crew past (call_of move) → Crewed setting (after crew move) (moment_of crew move step owner ∷ past)
+  pub tied_after : (move : Move) (step : Step) (owner : Option ℕ) → May (IsPlanned plan) crew move → IsAsked crew past step (call_of move) → Crewed setting (after crew move) (moment_of crew move step owner ∷ past)
   tied_after move step owner may asked = record {
-    numbered = serials_after setting plan crew past step owner h move may;
+    numbered = serials_after setting plan crew past step owner h move may asked;
     filed = jobs_after setting plan crew past step owner h move may asked;
-    lined = queue_after setting plan crew past step owner h move may;
-    counted = counts_after setting plan crew past step owner h move may;
+    assigned = clients_after setting plan crew past step owner h move may asked;
+    limited = client_limit_after setting plan crew past step owner h move may;
+    lined = queue_after setting plan crew past step owner h move may asked;
+    counted = counts_after setting plan crew past step owner h move may asked;
     handed = hands_after setting plan crew past step owner h move may;
   }
 
   -- At each move the law of the pool holds. That jobs are taken in order is a theorem of the laws, since each move is answered as they say.
-  pub pool_law : (move : Move) (step : Step) (owner : Option ℕ) → May (IsPlanned plan) crew move → IsAsked crew past (call_of move) → PoolLaw setting plan past (moment_of crew move step owner)
+  pub pool_law : (move : Move) (step : Step) (owner : Option ℕ) → May (IsPlanned plan) crew move → IsAsked crew past step (call_of move) → PoolLaw setting plan past (moment_of crew move step owner)
   pool_law move step owner may asked = record {
-    growth = growth_law setting plan crew past step owner h move may;
+    growth = growth_law setting plan crew past step owner h move may asked;
     answers = answer_law setting plan crew past step owner h move may asked;
     turns = turn_law setting plan crew past step owner h move may;
     order = order_after setting plan past (moment_of crew move step owner) h.laws (answer_law setting plan crew past step owner h move may asked);
   }
 
   -- So all of it holds after each move,
-  pub holds_after : (move : Move) (step : Step) (owner : Option ℕ) → May (IsPlanned plan) crew move → IsAsked crew past (call_of move) → CrewHolds setting plan (after crew move) (moment_of crew move step owner ∷ past)
+  pub holds_after : (move : Move) (step : Step) (owner : Option ℕ) → May (IsPlanned plan) crew move → IsAsked crew past step (call_of move) → CrewHolds setting plan (after crew move) (moment_of crew move step owner ∷ past)
   holds_after move step owner may asked = record {
     tied = tied_after move step owner may asked;
     ready = ready_after (IsPlanned plan) crew move h.ready may;
@@ -52,10 +55,10 @@ module _ (setting : ℕ) (plan : List Bool) (crew : Crew) (past : List Moment) (
   }
 
   -- after each call, whatever step of the layer above it was, and whoever's job,
-  pub holds_moved : (may_answer : ℕ → Bool → Type 0) (call : Call) (e : Event) (new : Crew) (step : Step) (owner : Option ℕ) → Narrows (IsPlanned plan) may_answer → Moves may_answer call crew e new → IsAsked crew past call
+  pub holds_moved : (may_answer : ℕ → Bool → Type 0) (call : Call) (e : Event) (new : Crew) (step : Step) (owner : Option ℕ) → Narrows (IsPlanned plan) may_answer → Moves may_answer call crew e new → IsAsked crew past step call
       → CrewHolds setting plan new (seen_as step e owner ∷ past)
   holds_moved may_answer call e new step owner narrow moves asked =
-      rw (moves.after_is, moves.event_is) (holds_after moves.move step owner (may_more (IsPlanned plan) may_answer narrow crew moves.move moves.may) (subst (IsAsked crew past) moves.call_is asked))
+      rw (moves.after_is, moves.event_is) (holds_after moves.move step owner (may_more (IsPlanned plan) may_answer narrow crew moves.move moves.may) (subst (IsAsked crew past step) moves.call_is asked))
 
   -- and after an event that is nothing to the crew.
   pub holds_aside : (last : Moment) → IsAside crew last.event → CrewHolds setting plan crew (last ∷ past)
@@ -78,6 +81,8 @@ begins setting plan = record {
   tied = record {
     numbered = record { next = refl; all_are = refl };
     filed = λ s. subst (λ entry. FiledAs entry None false false false false) (sym (map.get-empty nat_cmp s)) (refl, refl, refl, refl);
+    assigned = λ s entry found. absurd (let bad : None ≡ Some entry = sym (map.get-empty nat_cmp s) ∙ found in cc);
+    limited = record { limit_is = refl; positive = tt };
     lined = refl;
     counted = record {
       workers_are = refl;

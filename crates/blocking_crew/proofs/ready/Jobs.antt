@@ -66,8 +66,8 @@ module _ (may_answer : ℕ → Bool → Type 0) (crew : Crew) where
   rests number s is parked = parked_one crew.pool.jobs number parked s (ap (λ b. b || false) (turned s number.serial ∙ is))
 
   becomes_kept : (move : Move) (s : ℕ) → May may_answer crew move → (change_of crew move).which s ≡ true → IsKept (ends_turn move) (get crew.pool.jobs s) ((change_of crew move).becomes (get crew.pool.jobs s))
-  becomes_kept (Adds who (Ok number) growth pool) s may is =
-      fresh_kept (get crew.pool.jobs s) (new_job number.place new_ticket) (ap (get crew.pool.jobs) (sym (eqb-true number.serial s is) ∙ may.serial) ∙ may.unused) refl
+  becomes_kept (Adds who client (Ok number) growth pool) s may is =
+      fresh_kept (get crew.pool.jobs s) (new_job number.place client new_ticket) (ap (get crew.pool.jobs) (sym (eqb-true number.serial s is) ∙ may.serial) ∙ may.unused) refl
   becomes_kept (TakesJob v old to_drop turn ticket growth pool) s may is =
       taken_kept (get crew.pool.jobs s) may.1.job (ap (get crew.pool.jobs) (sym (eqb-true turn.serial s is)) ∙ may.1.found) may.1.stands
   becomes_kept (EndsTurn v held pass) s may is = ended_kept (get crew.pool.jobs s) None refl

@@ -2,7 +2,7 @@
 use Rattle.std.proofs.Common.{◌≡◌, ℕ, Bool, true, refl, sym, subst, arith, false, ap, Ok, Err}
 use Rattle.std.specs.FinMap.{get}
 use Rattle.blocking_crew.proofs.Types.{Memory, NoWorker, Numbers, Stay, Stop, Entered, Marked, Nothing, Event, Free, Out}
-use Rattle.blocking_crew.proofs.Words.{after_arrival, has_timed_out, Crew, stage_after, IsReady, Call, Move, Idles, Adds, Arrives, TakesJob, TakesNone, Works, EndsTurn, Parks, HasWaited, SetsLimit, Sweeps, IsWoken, IsCancelled, IsLetGo, Tells, first_stage, after, May, Moves, JobPool}
+use Rattle.blocking_crew.proofs.Words.{after_arrival, has_timed_out, Crew, stage_after, IsReady, Call, Move, Idles, Adds, Arrives, TakesJob, TakesNone, Works, EndsTurn, Parks, HasWaited, SetsLimit, SetsClientLimit, Sweeps, IsWoken, IsCancelled, IsLetGo, Tells, first_stage, after, May, Moves, JobPool}
 use Rattle.blocking_crew.specs.declared.hand.Stage.TheVariants as stage
 use Rattle.blocking_crew.specs.declared.tickets.Parking.TheVariants as parking
 use Rattle.blocking_crew.proofs.growth.Sweeps.{sweep_level}
@@ -14,10 +14,10 @@ use Rattle.blocking_crew.proofs.ready.Jobs.{same_kept, kept_after}
 -- the crew after a move is ready
 pub ready_after : (may_answer : ℕ → Bool → Type 0) (crew : Crew) (move : Move) → IsReady crew → May may_answer crew move → IsReady (after crew move)
 ready_after may_answer crew (Idles call) ready may = ready
-ready_after may_answer crew (Adds party (Ok number) growth pool) ready may = pool_ready crew pool ready (λ s. kept_after may_answer crew (Adds party (Ok number) growth pool) s may) (rw may.after_is (omega arith))
-ready_after may_answer crew (Adds party (Err Memory) growth pool) ready may = rw may.1 ready
-ready_after may_answer crew (Adds party (Err Numbers) growth pool) ready may = rw may.2 ready
-ready_after may_answer crew (Adds party (Err NoWorker) growth pool) ready may = pool_ready crew pool ready (λ s. kept_after may_answer crew (Adds party (Err NoWorker) growth pool) s may) (rw may.after_is (omega arith))
+ready_after may_answer crew (Adds party client (Ok number) growth pool) ready may = pool_ready crew pool ready (λ s. kept_after may_answer crew (Adds party client (Ok number) growth pool) s may) (rw may.after_is (omega arith))
+ready_after may_answer crew (Adds party client (Err Memory) growth pool) ready may = rw may.1 ready
+ready_after may_answer crew (Adds party client (Err Numbers) growth pool) ready may = rw may.2 ready
+ready_after may_answer crew (Adds party client (Err NoWorker) growth pool) ready may = pool_ready crew pool ready (λ s. kept_after may_answer crew (Adds party client (Err NoWorker) growth pool) s may) (rw may.after_is (omega arith))
 ready_after may_answer crew (Arrives pass) ready may =
     push_ready crew (record crew.pool { counts = after_arrival crew.pool.counts }) pass ready refl (omega (arith, may))
 ready_after may_answer crew (TakesJob v old to_drop turn ticket growth pool) ready may =
@@ -38,6 +38,7 @@ ready_after may_answer crew (HasWaited v pass end Stop growth pool) ready may =
     free_ready crew pool v pass Out ready may.0 (λ held is. cc) (λ s. kept_after may_answer crew (HasWaited v pass end Stop growth pool) s may)
     (rw may.1.answer.1 (let level = sweep_level (has_timed_out end) may_answer crew.pool may.1.between growth may.1.sweep in omega (arith, level, some)))
 ready_after may_answer crew (SetsLimit n) ready may = pool_ready crew (after crew (SetsLimit n)).pool ready (λ s. same_kept false (get crew.pool.jobs s)) refl
+ready_after may_answer crew (SetsClientLimit limit) ready may = pool_ready crew (after crew (SetsClientLimit limit)).pool ready (λ s. same_kept false (get crew.pool.jobs s)) refl
 ready_after may_answer crew (Sweeps growth pool) ready may = pool_ready crew pool ready (λ s. kept_after may_answer crew (Sweeps growth pool) s may) (sweep_level true may_answer crew.pool pool growth may)
 ready_after may_answer crew (IsWoken party number Entered growth pool) ready may = pool_ready crew pool ready (λ s. kept_after may_answer crew (IsWoken party number Entered growth pool) s may) (rw may.effect.after_is (omega arith))
 ready_after may_answer crew (IsWoken party number Marked growth pool) ready may = pool_ready crew pool ready (λ s. kept_after may_answer crew (IsWoken party number Marked growth pool) s may) (rw may.effect.1 refl)

@@ -1,7 +1,9 @@
 -- What holds of each act that a job, a holder or a worker may be seen to do here holds of the one that was seen.
 use Rattle.std.proofs.Common.{arith, [], ◌≡◌, ℕ, ◌==◌, not, Bool, true, false, List, ◌∷◌, length, refl, Option}
-use Rattle.blocking_crew.proofs.Types.{NoWorker, Done, Dropped, Act, Accepted, Arrived, Ended, GaveUp, HandedOut, HolderDropped, JobCancelled, JobParked, JobWoken, LimitSet, Refused, Stays, Stopped, Swept, TaskCancelled, TookDropped, TookNone, HolderWaker, Moment, Party, Step, Stage, Ticket}
+use Rattle.blocking_crew.proofs.Types.{NoWorker, Done, Dropped, Act, Accepted, Arrived, Ended, GaveUp, HandedOut, HolderDropped, JobCancelled, JobParked, JobWoken, ClientLimitSet, LimitSet, Refused, Stays, Stopped, Swept, TaskCancelled, TookDropped, TookNone, HolderWaker, Moment, Party, Step, Stage, Ticket}
 use Rattle.blocking_crew.proofs.Words.{Growth, Job as Entry, one_if, PoolAnswers, is_arrival, is_stop, limit_by, grows, turned_away, HasWorker, is_limit_set, accepted_jobs, lets_go, entered_by, taken_by, ended_by, is_of_pool, is_there, turn, hand, HoldsOne, FitsTurn, Crew, may_act, stage_after, outcome_of, standing_after, seen, is_aside, FiledHere, turn_of, Handed}
+use Rattle.blocking_laws.specs.Jobs.{client}
+use Rattle.blocking_laws.specs.Queue.{client_limit}
 use Rattle.blocking_laws.specs.declared.event.Act.TheVariants.{Took}
 use Rattle.blocking_crew.specs.declared.hand.Stage.TheVariants as stage
 
@@ -16,10 +18,11 @@ pub record Steady (gone : ℕ) (act : Act) : Type 0 where
   pub most : (l : ℕ) → limit_by act l ≡ l
   pub set : is_limit_set act ≡ false
 
--- whether jobs may enter at an act, and no job is taken, no turn ends, no worker arrives or stops, and the limit isn't set
+-- whether jobs may enter at an act, and no job is taken, no turn ends, no worker arrives or stops, and no limit is set
 abbrev pub enters_only : Act → Bool
 enters_only (Refused NoWorker) = false
 enters_only (LimitSet n) = false
+enters_only (ClientLimitSet n) = false
 enters_only (Arrived v) = false
 enters_only (Took s) = false
 enters_only (TookDropped s) = false
@@ -27,12 +30,15 @@ enters_only (Stopped v end) = false
 enters_only (Ended s how) = false
 enters_only _ = true
 
-pub record EntersOnly (past : List Moment) (act : Act) : Type 0 where
+pub record EntersOnly (past : List Moment) (now : Moment) (act : Act) : Type 0 where
   pub steady : Steady 0 act
   pub grew_is : grows past act ≡ not (length (entered_by past act) == 0)
-  pub away : turned_away act ≡ 0
+  pub away : turned_away past now act ≡ 0
   pub taken : taken_by act ≡ []
   pub ended : ended_by act ≡ []
+
+pub only_enters : (past : List Moment) (now : Moment) (act : Act) → enters_only act ≡ true → EntersOnly past now act
+only_enters past now act is = grind arith
 
 -- whether an act is one of a holder that lets go of nothing, or of a job that goes on in its turn, or none at all
 abbrev pub is_plain : Act → Bool
@@ -41,6 +47,7 @@ is_plain (Refused why) = false
 is_plain (JobWoken s woke) = false
 is_plain (JobCancelled s woke) = false
 is_plain (LimitSet n) = false
+is_plain (ClientLimitSet n) = false
 is_plain (Swept n) = false
 is_plain TaskCancelled = false
 is_plain HolderDropped = false
@@ -62,6 +69,8 @@ pub record Plain (setting : ℕ) (past : List Moment) (last : Moment) : Type 0 w
   pub none : entered_by past last.event.act ≡ []
   pub worker : (n : ℕ) → HasWorker last.event.act n
   pub accepted : accepted_jobs (last ∷ past) ≡ accepted_jobs past
+  pub client_is : (s : ℕ) → client (last ∷ past) s ≡ client past s
+  pub limit_is : client_limit (last ∷ past) ≡ client_limit past
   pub filed : (entry : Option (Entry Ticket)) (s : ℕ) → FiledHere entry past s → FiledHere entry (last ∷ past) s
   pub there : (v : ℕ) → is_there (last ∷ past) v ≡ is_there past v
   pub hand_is : (v : ℕ) → hand (last ∷ past) v ≡ hand past v
@@ -78,6 +87,7 @@ module _ (setting : ℕ) (past : List Moment) (step : Step) (owner : Option ℕ)
   plain (JobWoken s woke) is = absurd cc
   plain (JobCancelled s woke) is = absurd cc
   plain (LimitSet n) is = absurd cc
+  plain (ClientLimitSet n) is = absurd cc
   plain (Swept n) is = absurd cc
   plain TaskCancelled is = absurd cc
   plain HolderDropped is = absurd cc
@@ -96,6 +106,8 @@ module _ (setting : ℕ) (past : List Moment) (step : Step) (owner : Option ℕ)
     none = refl;
     worker = λ n. tt;
     accepted = refl;
+    client_is = λ s. refl;
+    limit_is = refl;
     filed = λ entry s filed. filed;
     there = λ v. refl;
     hand_is = λ v. refl;

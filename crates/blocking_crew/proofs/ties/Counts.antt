@@ -2,7 +2,7 @@
 use Rattle.std.proofs.Common.{[], ◌≡◌, ℕ, ◌<◌, ◌≤◌, ◌+◌, ◌==◌, min, List, ◌∷◌, Bool, false, cond, length, length-append, refl, sym, ap, ◌∙◌, ap₂, arith, if◌then◌else◌, Option, Some, None, ◌||◌, filter}
 use Rattle.std.proofs.lemmas.Bool.Decides.{nat_tests}
 use Rattle.blocking_crew.proofs.Types.{WorkerPass, Act, Moment, Party, Step, Free}
-use Rattle.blocking_crew.proofs.Words.{limit_of, greatest, Growth, number_after, limit_after, one_if, added, starts, refused_starts, is_arrival, arrivals, is_stop, workers, limit, grows, IsPlanned, has_limit, running, Crew, one_if_busy, busy_hands, Move, Arrives, SetsLimit, next_start, after, May, no_growth, Counted, CrewHolds, moment_of}
+use Rattle.blocking_crew.proofs.Words.{limit_of, greatest, Growth, number_after, limit_after, one_if, added, starts, refused_starts, is_arrival, arrivals, is_stop, workers, limit, grows, IsPlanned, has_limit, running, Crew, one_if_busy, busy_hands, Move, Arrives, SetsLimit, SetsClientLimit, call_of, next_start, after, May, no_growth, Counted, CrewHolds, moment_of, IsAsked}
 use Rattle.blocking_laws.specs.Counts.{stops as all_stops}
 use Rattle.blocking_crew.proofs.hands.Rows.{sum_pushed}
 use Rattle.blocking_crew.proofs.ties.Acts.{now_with, Steady}
@@ -98,10 +98,14 @@ module _ (setting : ℕ) (plan : List Bool) (crew : Crew) (past : List Moment) (
   sets_limit : (n : ℕ) → Counted setting (after crew (SetsLimit n)) (moment_of crew (SetsLimit n) step owner ∷ past)
   sets_limit n = grind arith
 
+  sets_client_limit : (limit : Option ℕ) → Counted setting (after crew (SetsClientLimit limit)) (moment_of crew (SetsClientLimit limit) step owner ∷ past)
+  sets_client_limit limit = grind arith
+
   -- Each move keeps the counts what the past tells.
-  pub counts_after : (move : Move) → May (IsPlanned plan) crew move → Counted setting (after crew move) (moment_of crew move step owner ∷ past)
-  counts_after (Arrives pass) may = arrives pass may
-  counts_after (SetsLimit n) may = sets_limit n
-  counts_after move may =
-      let f = flows setting plan crew past step owner h move may refl in
+  pub counts_after : (move : Move) → May (IsPlanned plan) crew move → IsAsked crew past step (call_of move) → Counted setting (after crew move) (moment_of crew move step owner ∷ past)
+  counts_after (Arrives pass) may asked = arrives pass may
+  counts_after (SetsLimit n) may asked = sets_limit n
+  counts_after (SetsClientLimit limit) may asked = sets_client_limit limit
+  counts_after move may asked =
+      let f = flows setting plan crew past step owner h move may asked refl in
       counted_by (gone_of move) f.free (after crew move) (moment_of crew move step owner) f.steady f.grew f.balance f.hands f.busy

@@ -24,8 +24,8 @@ due_filed found stand wake cancel mark ended f = grind arith
 
 module _ (wake cancel mark ended : Bool) where
   -- a new job
-  pub accepted_filed : (found : Option (Entry Ticket)) (place : ℕ) → FiledAs found None wake cancel mark ended → FiledAs (Some (new_job place new_ticket)) (Some Queued) wake cancel mark ended
-  accepted_filed found place filed = grind arith
+  pub accepted_filed : (found : Option (Entry Ticket)) (place c : ℕ) → FiledAs found None wake cancel mark ended → FiledAs (Some (new_job place c new_ticket)) (Some Queued) wake cancel mark ended
+  accepted_filed found place c filed = grind arith
 
   -- a queued job is taken
   pub taken_filed : (found : Option (Entry Ticket)) → FiledAs found (Some Queued) wake cancel mark ended → FiledAs (option_map entry_after_take found) (Some Running) false cancel mark ended

@@ -123,8 +123,8 @@ module _ (setting : ℕ) (plan : List Bool) (crew : Crew) (past : List Moment) (
 
   -- Each move keeps the hands as they were seen.
   pub hands_after : (move : Move) → May (IsPlanned plan) crew move → Handed (after crew move) (moment_of crew move step owner ∷ past)
-  hands_after (Adds who (Ok number) growth pool) may = record { each = h.tied.handed.each; turn_is = h.tied.handed.turn_is }
-  hands_after (Adds who (Err why) growth pool) may = record { each = h.tied.handed.each; turn_is = h.tied.handed.turn_is }
+  hands_after (Adds who c (Ok number) growth pool) may = record { each = h.tied.handed.each; turn_is = h.tied.handed.turn_is }
+  hands_after (Adds who c (Err why) growth pool) may = record { each = h.tied.handed.each; turn_is = h.tied.handed.turn_is }
   hands_after (Arrives pass) may = arrives pass
   hands_after (TakesJob v old true number ticket growth pool) may =
       takes v old (record { turn = number; stage = first_stage true }) MustGiveUp pool _ may.0 (front_stands setting plan crew past h (IsPlanned plan) number ticket true growth pool may.1) refl (λ u. refl) (λ u. refl) (λ s. refl)

@@ -95,12 +95,12 @@ module _ (setting : ℕ) (plan : List Bool) (crew : Crew) (past : List Moment) (
   -- ---- every move
 
   -- Each move keeps the pool's jobs as they were seen.
-  pub jobs_after : (move : Move) → May (IsPlanned plan) crew move → IsAsked crew past (call_of move) → Filed (after crew move).pool (moment_of crew move step owner ∷ past)
-  jobs_after (Adds who (Ok number) growth pool) may asked s =
-      rw (found_after (IsPlanned plan) crew (Adds who (Ok number) growth pool) s may)
-      (stands_as number.serial s Queued (Some (new_job number.place new_ticket))
-      (λ same. accepted_filed _ _ _ _ (get crew.pool.jobs s) number.place (stood number.serial s None same (ap (standing past) may.serial ∙ fresh setting plan crew past h))))
-  jobs_after (Adds who (Err why) growth pool) may asked s = rw (found_after (IsPlanned plan) crew (Adds who (Err why) growth pool) s may) (h.tied.filed s)
+  pub jobs_after : (move : Move) → May (IsPlanned plan) crew move → IsAsked crew past step (call_of move) → Filed (after crew move).pool (moment_of crew move step owner ∷ past)
+  jobs_after (Adds who c (Ok number) growth pool) may asked s =
+      rw (found_after (IsPlanned plan) crew (Adds who c (Ok number) growth pool) s may)
+      (stands_as number.serial s Queued (Some (new_job number.place c new_ticket))
+      (λ same. accepted_filed _ _ _ _ (get crew.pool.jobs s) number.place c (stood number.serial s None same (ap (standing past) may.serial ∙ fresh setting plan crew past h))))
+  jobs_after (Adds who c (Err why) growth pool) may asked s = rw (found_after (IsPlanned plan) crew (Adds who c (Err why) growth pool) s may) (h.tied.filed s)
   jobs_after (TakesJob v old true turn ticket growth pool) may asked s = took_filed v old turn ticket true growth pool s may
   jobs_after (TakesJob v old false turn ticket growth pool) may asked s = took_filed v old turn ticket false growth pool s may
   jobs_after (Works v held act) may asked s =

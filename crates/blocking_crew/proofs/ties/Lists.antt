@@ -1,7 +1,6 @@
 -- Lists of numbers: how often a number stands in one, and what is left without it.
-use Rattle.std.proofs.Common.{◌≡◌, ℕ, ◌+◌, ◌==◌, ◌||◌, cond, Bool, false, List, [], ◌∷◌, length, refl, ap, ◌∙◌, arith, zero, suc, filter, not, nat_lt}
+use Rattle.std.proofs.Common.{◌≡◌, ℕ, ◌+◌, ◌==◌, ◌||◌, cond, Bool, List, [], ◌∷◌, length, ap, ◌∙◌, arith, zero, suc, filter, not, nat_lt}
 use Rattle.std.proofs.lemmas.List.Filters.{length-filter_both}
-use Rattle.std.proofs.lemmas.Bool.{eq-eqb}
 use Rattle.std.proofs.lemmas.Bool.Decides.{nat_tests}
 use Rattle.blocking_crew.proofs.Words.{one_if, is_in, without, serials_below, times}
 use Rattle.blocking_pool.proofs.Lists.{turned}
@@ -24,11 +23,6 @@ without_times t ns = length-filter_both (λ n. not (t == n)) (λ n. n == t) (λ 
 -- the first of a list, and the rest
 pub times_first : (s m : ℕ) (ns : List ℕ) (k : ℕ) → times s (m ∷ ns) ≡ k → times s ns + one_if (m == s) ≡ k
 times_first s m ns k e = grind arith
-
--- the front of a list in which it stands once is left by nothing else
-pub front_once : (s : ℕ) (ns : List ℕ) (b : Bool) → times s (s ∷ ns) ≡ one_if b → is_in s ns ≡ false
-front_once s ns b e =
-    let rest = times_first s s ns (one_if b) e in let same = eq-eqb s s refl in in_times s ns false (grind (arith, rest, same))
 
 -- ---- serials
 

@@ -33,8 +33,8 @@ number_by : (found : Option (Entry Ticket)) (place other : ℕ) → place_of fou
 number_by found place other is placed = grind arith
 
 -- the number of a new job is its number
-pub number_of_new : (plan : List Bool) (old new : JobPool) (number : JobNumber) (growth : Growth) → AddsTo (IsPlanned plan) old (Ok number) growth new → IsNumberOf new number
-number_of_new plan old new number growth adds entry found = grind (arith, job_put)
+pub number_of_new : (plan : List Bool) (old new : JobPool) (client : ℕ) (number : JobNumber) (growth : Growth) → AddsTo (IsPlanned plan) old client (Ok number) growth new → IsNumberOf new number
+number_of_new plan old new client number growth adds entry found = grind (arith, job_put)
 
 module _ (setting : ℕ) (plan : List Bool) (crew : Crew) (past : List Moment) (h : CrewHolds setting plan crew past) (number : JobNumber) where
   abbrev s : ℕ

@@ -1,16 +1,19 @@
--- What a crew and the laws tell of one job: the next one stands nowhere, the one in a hand runs, the front one is queued.
+-- What a crew and the laws tell of one job: the next one stands nowhere, the one in a hand runs, the first ready one is queued.
 use Rattle.std.proofs.Common.{◌≡◌, ℕ, ◌+◌, ◌==◌, List, [], ◌∷◌, length, Bool, true, false, refl, sym, ap, ◌∙◌, subst, arith, Option, Some, None, inl, inr, if◌then◌else◌, ◌&&◌, not, nat_lt, is_some}
 use Rattle.std.specs.FinMap.{get}
 use Rattle.std.proofs.lemmas.Bool.{ne_eqb, cases_eq}
 use Rattle.std.proofs.lemmas.Bool.Decides.{nat_tests}
 use Rattle.blocking_crew.proofs.Types.{Woke, Standing, Done, Dropped, Queued, Running, Act, Accepted, Moment, Holds, Held, Ticket}
-use Rattle.blocking_crew.proofs.Words.{Growth, JobNumber, one_if, is_running_job, standing_of, is_in, without, accepted_by, accepted_jobs, accepts, newcomer, holder, is_queued, standing, queue, running, times, joined, Crew, hand_at, JobPool, TakesFront, FiledHere, IsNumberOf, CrewHolds}
+use Rattle.blocking_crew.proofs.Words.{Growth, JobNumber, one_if, ready, is_running_job, standing_of, is_in, without, accepted_by, accepted_jobs, accepts, newcomer, holder, standing, running, times, joined, Crew, hand_at, JobPool, TakesFront, FiledHere, IsNumberOf, CrewHolds}
 use Rattle.blocking_laws.specs.Jobs.{is_running}
-use Rattle.blocking_pool.proofs.Lists.{without-first, is_in-last, is_in-push}
-use Rattle.blocking_laws.proofs.Queues.{queued_so, runs_so, known_so}
+use Rattle.blocking_pool.specs.Pools.{has_room}
+use Rattle.blocking_pool.proofs.Lists.{is_in-last, is_in-push}
+use Rattle.blocking_laws.specs.Queue.{has_room as has_room_by_law, ready as ready_by_law}
+use Rattle.blocking_laws.proofs.Queues.{sound_of, runs_so, known_so}
 use Rattle.blocking_crew.proofs.jobs.Lookups.{runs_at}
 use Rattle.blocking_crew.proofs.ties.Entries.{filed_runs, filed_none}
-use Rattle.blocking_crew.proofs.ties.Lists.{in_times, front_once, times_below, times_first, without_times}
+use Rattle.blocking_crew.proofs.ties.Lists.{in_times, times_below, times_first, without_times}
+use Rattle.blocking_crew.proofs.ties.Ready.{ready_is, room_is}
 
 unknown_is : (st : Option Standing) → one_if (is_some st) ≡ 0 → st ≡ None
 unknown_is st e = grind arith
@@ -88,7 +91,14 @@ module _ (setting : ℕ) (plan : List Bool) (crew : Crew) (past : List Moment) (
       let one : times s (running past) ≡ 1 = runs_so setting plan past h.laws s ∙ ap (λ o. one_if (is_running o)) (held_runs v held at) in
       ap (λ k. length (without s (running past)) + k) (sym one) ∙ without_times s (running past)
 
-  -- the job at the front of the queue is queued
+  -- The ready jobs are those that the past tells, and each client has room where it was seen to have.
+  pub ready_seen : ready crew.pool ≡ ready_by_law past
+  ready_seen = ready_is crew.pool past (sound_of setting plan past h.laws) h.tied.numbered h.tied.filed h.tied.assigned h.tied.limited h.tied.lined
+
+  pub room_seen : (c : ℕ) → has_room crew.pool c ≡ has_room_by_law past c
+  room_seen = room_is crew.pool past (sound_of setting plan past h.laws) h.tied.numbered h.tied.filed h.tied.assigned h.tied.limited h.tied.lined
+
+  -- the first ready job is queued
   pub front_filed : (may_answer : ℕ → Bool → Type 0) (number : JobNumber) (value : Ticket) (to_drop : Bool) (growth : Growth) (new : JobPool) (f : TakesFront may_answer crew.pool number value to_drop growth new)
       → FiledHere (Some f.job) past number.serial
   front_filed may_answer number value to_drop growth new f = subst (λ o. FiledHere o past number.serial) f.found (h.tied.filed number.serial)
@@ -103,10 +113,3 @@ module _ (setting : ℕ) (plan : List Bool) (crew : Crew) (past : List Moment) (
   front_rests may_answer number value to_drop growth new f =
       in_times number.serial (running past) false
       (runs_so setting plan past h.laws number.serial ∙ ap (λ o. one_if (is_running o)) (front_stands may_answer number value to_drop growth new f))
-
-  -- and the queue without it is its rest
-  pub front_out : (s : ℕ) (rest : List ℕ) → crew.pool.queue ≡ s ∷ rest → without s (queue past) ≡ rest
-  front_out s rest front =
-      let line : queue past ≡ s ∷ rest = sym h.tied.lined ∙ front in
-      let once : times s (s ∷ rest) ≡ one_if (is_queued (standing past s)) = ap (times s) (sym line) ∙ queued_so setting plan past h.laws s in
-      ap (without s) line ∙ without-first s rest (front_once s rest (is_queued (standing past s)) once)

@@ -1,7 +1,7 @@
 -- A move that there may be under some answers of a starter may be there under more of them.
-use Rattle.std.proofs.Common.{ℕ, ◌+◌, List, [], ◌∷◌, Bool, length, Ok, Err, arith}
+use Rattle.std.proofs.Common.{ℕ, List, [], ◌∷◌, Bool, length, Ok, Err, arith}
 use Rattle.blocking_crew.proofs.Types.{NoWorker, Entered}
-use Rattle.blocking_crew.proofs.Words.{Counts, after_pickup, Narrows, Growth, has_timed_out, Crew, Move, Adds, TakesJob, HasWaited, Sweeps, IsWoken, IsCancelled, May, JobPool, GrowsBy, EntersAgain, to_sweep, SweepsTo, SweepsIf}
+use Rattle.blocking_crew.proofs.Words.{Counts, after_pickup, Narrows, Growth, ready, ready_with, has_timed_out, Crew, Move, Adds, TakesJob, HasWaited, Sweeps, IsWoken, IsCancelled, May, JobPool, GrowsBy, EntersAgain, to_sweep, SweepsTo, SweepsIf}
 
 module _ (wide narrow : ℕ → Bool → Type 0) (more : Narrows wide narrow) where
   grows : (ready : ℕ) (counts : Counts) (growth : Growth) → GrowsBy narrow ready counts growth → GrowsBy wide ready counts growth
@@ -18,22 +18,22 @@ module _ (wide narrow : ℕ → Bool → Type 0) (more : Narrows wide narrow) wh
 
   -- A move under some answers is one under more.
   pub may_more : (crew : Crew) (move : Move) → May narrow crew move → May wide crew move
-  may_more crew (Adds who (Ok number) growth pool) may =
-      record { serial = may.serial; left = may.left; unused = may.unused; starts = grows (length crew.pool.queue + 1) crew.pool.counts growth may.starts; staffed = may.staffed; after_is = may.after_is }
-  may_more crew (Adds who (Err NoWorker) growth pool) may =
-      record { left = may.left; starts = grows (length crew.pool.queue + 1) crew.pool.counts growth may.starts; unstaffed = may.unstaffed; after_is = may.after_is }
+  may_more crew (Adds who c (Ok number) growth pool) may =
+      record { serial = may.serial; left = may.left; unused = may.unused; starts = grows (length (ready pool)) crew.pool.counts growth may.starts; staffed = may.staffed; after_is = may.after_is }
+  may_more crew (Adds who c (Err NoWorker) growth pool) may =
+      record { left = may.left; starts = grows (ready_with crew.pool c) crew.pool.counts growth may.starts; unstaffed = may.unstaffed; after_is = may.after_is }
   may_more crew (TakesJob v old to_drop number ticket growth pool) may = (
     may.0,
     record {
-      rest = may.1.rest;
       front = may.1.front;
+      once = may.1.once;
       job = may.1.job;
       found = may.1.found;
       stands = may.1.stands;
       place = may.1.place;
       value_is = may.1.value_is;
       wanted = may.1.wanted;
-      starts = grows (length may.1.rest) (after_pickup crew.pool.counts) growth may.1.starts;
+      starts = grows (length (ready pool)) (after_pickup crew.pool.counts) growth may.1.starts;
       after_is = may.1.after_is;
     },
   )

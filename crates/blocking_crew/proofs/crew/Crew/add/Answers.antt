@@ -18,9 +18,9 @@ pub returns : goal.returns
 returns g c =
     rw (sym c.self.view_is)
     (record {
-      move = Adds c.args.party c.add-number.result.0 c.add-number.result.1 c.add-number.new.self;
+      move = Adds c.args.party c.args.client c.add-number.result.0 c.add-number.result.1 c.add-number.new.self;
       may = c.add-number.ensures;
-      call_is = ap (Add c.args.party) (number_is g c);
+      call_is = ap (Add c.args.party c.args.client) (number_is g c);
       event_is =
           let act = act_is g c ∙ ap added_act (number_is g c) in
           let start = c.next_start-first.ensures ∙ ap next_start (sym c.self.view_is) in

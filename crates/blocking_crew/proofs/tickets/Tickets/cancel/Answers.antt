@@ -19,3 +19,6 @@ returns g c =
       answer = woken.answer;
       effect = enters_again (asked g.S.Starter c.args.starter.now c.cancel-woke.new.starter) (with_job c.args.self.now c.args.number.serial entry_after_cancel) c.cancel-woke.new.self (c.args.number.serial ∷ []) c.growth_since-growth.result woken.effect (cc, cc);
     }
+
+pub invariant_of-self-2 : goal.invariant_of-self-2
+invariant_of-self-2 g c = let after = (returns g c).effect.after_is in rw after (cc, cc, cc)

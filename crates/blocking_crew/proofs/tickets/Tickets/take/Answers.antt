@@ -1,6 +1,6 @@
 use Rattle.std.proofs.Common.{◌≡◌, arith}
 use Rattle.blocking_crew.proofs.Words.{asked}
-use Rattle.blocking_crew.proofs.growth.Calls.{takes_to, take_numbers}
+use Rattle.blocking_crew.proofs.growth.Calls.{takes_to, take_numbers, take_leaves}
 use Rattle.blocking_crew.proofs.tickets.Tickets.take.Goals as goal
 
 pub next_after-self-inside-requires : goal.next_after-self-inside-requires
@@ -16,3 +16,8 @@ pub returns : goal.returns
 returns g c =
     takes_to (asked g.S.Starter c.args.starter.now c.take.new.starter) c.args.self.now c.take.new.self c.growth_since-growth.result c.before-before.ensures.sound (cc, cc) c.take.result
     c.in_default.not-Idle (rw c.self.view_is at c.take.ensures.answer)
+
+pub invariant_of-self-2 : goal.invariant_of-self-2
+invariant_of-self-2 g c =
+    let left = take_leaves (g.S.Starter.may_answer c.args.starter.now) c.args.self.now c.take.new.self c.growth_since-growth.result c.take.result c.in_default.not-Idle (returns g c) in
+    (cc, cc, cc)

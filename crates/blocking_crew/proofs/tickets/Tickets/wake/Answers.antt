@@ -19,3 +19,6 @@ returns g c =
       answer = woken.answer;
       effect = enters_again (asked g.S.Starter c.args.starter.now c.wake-woke.new.starter) c.args.self.now c.wake-woke.new.self (c.args.note.serial ∷ []) c.growth_since-growth.result woken.effect (cc, cc);
     }
+
+pub invariant_of-self-2 : goal.invariant_of-self-2
+invariant_of-self-2 g c = let after = (returns g c).effect.after_is in rw after (cc, cc, cc)
