@@ -18,7 +18,7 @@ use Rattle.blocking_laws.specs.declared.event.Moment.{Moment}
 use Rattle.blocking_laws.specs.declared.event.Party.{Party}
 use Rattle.blocking_laws.specs.declared.event.Party.TheVariants.{Owner as ByOwner, Pool, Task, Worker}
 use Rattle.blocking_laws.specs.declared.step.Step.{Step}
-use Rattle.blocking_laws.specs.declared.step.Step.TheVariants.{New, Ask, Own, DropOwner, Spawn, OfTask, Arrive, Take, Job, Io, End, Wait, Late, SetLimit, Sweep, Stray, Strike, Link, Copy}
+use Rattle.blocking_laws.specs.declared.step.Step.TheVariants.{New, Ask, Own, DropOwner, Spawn, OfTask, Arrive, Take, Job, Io, End, Wait, Late, SetLimit, SetClientLimit, Sweep, Stray, Strike, Link, Copy}
 use Rattle.blocking_parts.specs.Moves.{CopierMoves, Steps, may_ask_in, rests_in}
 use Rattle.blocking_parts.specs.Parts.{Parts}
 use Rattle.blocking_parts.specs.Ties.{IsFree, IsLawful as PartsAreLawful}
@@ -242,13 +242,13 @@ module _ (setting : ℕ) (plan : List Bool) (w : Assembled) (past : List Moment)
       (λ h by some. absurd (no_owner (is_nothing e.act) e.party (named step) (party past step) h (law_now step e new free does).by one other by))
 
   -- an owner is made
-  makes : (capacity : ℕ) (e : Event) (new : Assembled) → Takes (IsPlanned plan) (New capacity) w e new → IsLawful setting plan new (record { step = New capacity; event = e } ∷ past)
-  makes capacity e new does =
-      let law = law_now (New capacity) e new tt does in
-      takes_lawful (New capacity) e new tt does refl refl tt
+  makes : (capacity client : ℕ) (e : Event) (new : Assembled) → Takes (IsPlanned plan) (New capacity client) w e new → IsLawful setting plan new (record { step = New capacity client; event = e } ∷ past)
+  makes capacity client e new does =
+      let law = law_now (New capacity client) e new tt does in
+      takes_lawful (New capacity client) e new tt does refl refl tt
       (λ h by some.
       let act = law.act.1 in
-      let acts = owner_acts (New capacity) e new tt does h by some (ap is_of_pool act) in
+      let acts = owner_acts (New capacity client) e new tt does h by some (ap is_of_pool act) in
       let none : cut h (events past) ≡ [] = subst (OwnerActs (cut h (events past))) act acts in
       made_lent h w.copiers t.each (ap (λ c. is_made (own c)) none))
 
@@ -606,13 +606,13 @@ module _ (setting : ℕ) (plan : List Bool) (w : Assembled) (past : List Moment)
   -- ---- each step
 
   pub does_lawful : (step : Step) (e : Event) (new : Assembled) → Does (IsPlanned plan) step w e new → IsLawful setting plan new (record { step = step; event = e } ∷ past)
-  does_lawful (New capacity) e new does = makes capacity e new does
+  does_lawful (New capacity client) e new does = makes capacity client e new does
   does_lawful (Ask h call) e new does = asks h call e new (is_lent h w.copiers) refl does
   does_lawful (DropOwner h) e new does = drops h e new (is_lent h w.copiers) refl does
   does_lawful (Own h) e new does = polls h e new does
   does_lawful (Link a b n) e new does = links_so a b n e new (may_link_in w a b n) refl does
   does_lawful (Copy k) e new does = copies_at k e new (copier_at k w.copiers) refl does
-  does_lawful Spawn e new does = plain Spawn e new tt does refl refl tt tt tt
+  does_lawful (Spawn client) e new does = plain (Spawn client) e new tt does refl refl tt tt tt
   does_lawful (OfTask k call) e new does = plain (OfTask k call) e new tt does refl refl tt tt tt
   does_lawful Arrive e new does = plain Arrive e new tt does refl refl tt tt tt
   does_lawful (Take v) e new does = plain (Take v) e new tt does refl refl tt tt tt
@@ -622,6 +622,7 @@ module _ (setting : ℕ) (plan : List Bool) (w : Assembled) (past : List Moment)
   does_lawful (Wait v) e new does = plain (Wait v) e new tt does refl refl tt tt tt
   does_lawful (Late v) e new does = plain (Late v) e new tt does refl refl tt tt tt
   does_lawful (SetLimit n) e new does = plain (SetLimit n) e new tt does refl refl tt tt tt
+  does_lawful (SetClientLimit limit) e new does = plain (SetClientLimit limit) e new tt does refl refl tt tt tt
   does_lawful Sweep e new does = plain Sweep e new tt does refl refl tt tt tt
   does_lawful (Stray s) e new does = plain (Stray s) e new tt does refl refl tt tt tt
   does_lawful (Strike s) e new does = plain (Strike s) e new tt does refl refl tt tt tt

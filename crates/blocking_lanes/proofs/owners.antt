@@ -23,4 +23,5 @@ pub mod Steps
 pub mod Events
 pub mod Wakes
 pub mod Actions
+pub mod Clients
 pub mod Owners

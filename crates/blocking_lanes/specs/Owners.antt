@@ -74,17 +74,18 @@ use Rattle.blocking_lanes.specs.declared.session.Looked.TheVariants as looked
 use Rattle.blocking_pool.specs.Jobs.{JobNumber}
 use Rattle.blocking_pool.specs.declared.pool.answer.Refusal.{Refusal}
 
--- An owner: the number of bytes that it was made with, the call that it was asked last, where it is in its polls, and its last session,
--- if any.
+-- An owner: the number of bytes that it was made with, the client whose its jobs are, the call that it was asked last, where it is in its
+-- polls, and its last session, if any.
 pub record Owner : Type 0 where
   pub capacity : ℕ
+  pub client : ℕ
   pub asked : Option HandleCall
   pub stage : OwnerStage
   pub session : Option Session
 
--- an owner that was made with this number of bytes
-abbrev pub new_owner : ℕ → Owner
-new_owner capacity = record { capacity = capacity; asked = None; stage = stage.Rests state.Idle poll_end.Replied; session = None }
+-- an owner that was made with this number of bytes, for this client
+abbrev pub new_owner : ℕ → ℕ → Owner
+new_owner capacity client = record { capacity = capacity; client = client; asked = None; stage = stage.Rests state.Idle poll_end.Replied; session = None }
 
 -- how many bytes or items the pipe of a session of this kind holds
 abbrev pub capacity_of : Owner → Kind → ℕ

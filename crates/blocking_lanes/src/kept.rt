@@ -12,6 +12,7 @@ ghost use Rattle.blocking_laws.specs.declared.event.Event.{Event};
 ghost use Rattle.blocking_laws.specs.declared.event.Moment.{Moment};
 ghost use Rattle.blocking_lanes.specs.Owners.{Owner, new_owner};
 ghost use Rattle.blocking_lanes.specs.OwnerSteps as of_owners;
+ghost use Rattle.blocking_lanes.specs.OwnerSteps.{OwnerStep, owner_after};
 ghost use Rattle.blocking_lanes.specs.OwnerTies.{OwnerAs, OwnersHold};
 ghost use Rattle.blocking_lanes.specs.Steps as of_tasks;
 ghost use Rattle.blocking_lanes.specs.Tasks.{Task, new_task};
@@ -32,17 +33,18 @@ pub fn tasks()
         TasksHold new (now ∷ past) }
 {}
 
-/// Whatever owners and the jobs of their sessions do, each keeps its laws, and hangs together with its cut, in the same three cases. An owner
-/// that waits in a session whose job is over, or sits in its own seat, was woken.
+/// Whatever owners and the jobs of their sessions do, each keeps its laws, and hangs together with its cut, in the same three cases. It stays
+/// of its client, whatever step it takes. An owner that waits in a session whose job is over, or sits in its own seat, was woken.
 pub fn owners()
     ensures aside { (row : List Owner) (past : List Moment) (now : Moment) →
         of_owners.IsAside past now.event → OwnersHold row past → OwnersHold row (now ∷ past) }
-    ensures born { (row : List Owner) (past : List Moment) (now : Moment) (capacity : ℕ) →
+    ensures born { (row : List Owner) (past : List Moment) (now : Moment) (capacity client : ℕ) →
         of_owners.MakesOwner now.event (length row) capacity → OwnersHold row past →
-        OwnersHold (row ++ new_owner capacity ∷ []) (now ∷ past) }
+        OwnersHold (row ++ new_owner capacity client ∷ []) (now ∷ past) }
     ensures stepped { (old new : List Owner) (past : List Moment) (now : Moment) →
         of_owners.TakesStep past old now.event new → OwnersHold old past →
         OwnersHold new (now ∷ past) }
+    ensures steady { (step : OwnerStep) (owner : Owner) → (owner_after step owner).client ≡ owner.client }
     ensures told { (owner : Owner) (cut : List Event) (s : ℕ) → OwnerAs owner cut →
         IsSessionOf (session (own cut)) s → is_waiting (own cut) ≡ true →
         (has_finished (acts_of s cut) || has_given_up (acts_of s cut) ≡ true) ⊎ (is_job_seated cut ≡ true) →

@@ -83,13 +83,14 @@ pub enum OwnerNext {
     Acts(usize),
 }
 
-/// An owner: how many bytes or items the pipes of its sessions hold, the call that it was asked last, where it is in its polls, and its last
-/// session. The wakers in its seats are told as units.
+/// An owner: how many bytes or items the pipes of its sessions hold, the client whose its jobs are, the call that it was asked last, where it
+/// is in its polls, and its last session. The wakers in its seats are told as units.
 ///
 /// It may hold the note of a job that has to be woken, so it can't be let go: [`Owner::into_note`] takes it apart.
 pub struct Owner {
     // (0 stands for the defaults)
     capacity: usize,
+    client: u32,
     asked: Option<HandleCall>,
     stage: OwnerStage,
     session: Option<Session>,
@@ -100,7 +101,7 @@ impl Model for Owner {
 
     ghost Value = { Lane };
 
-    ghost view = { λ o. record { capacity = o.capacity; asked = o.asked; stage = o.stage; session = o.session } };
+    ghost view = { λ o. record { capacity = o.capacity; client = o.client; asked = o.asked; stage = o.stage; session = o.session } };
 }
 
 // The serial of the job that this note wakes.
@@ -200,12 +201,14 @@ impl Owner {
     ghost use Rattle.blocking_lanes.specs.Owners.{may_ask, may_ask_at, awaits_operation, front_in, fill_did_in, item_in, drop_did, new_job_of, worked, IsWorked, give_up_act, owner_after_give_up};
     ghost use Rattle.blocking_lanes.specs.declared.job.SessionJob.TheVariants as of_job;
 
-    /// An owner, with an idle handle. The pipes of its sessions hold so many bytes or items; 0 stands for 8,388,608 bytes and 8,192 items.
-    pub fn new(capacity: usize) -> Owner
-        ensures { result ≡ new_owner capacity }
+    /// An owner of this client, with an idle handle. The pipes of its sessions hold so many bytes or items; 0 stands for 8,388,608 bytes and
+    /// 8,192 items.
+    pub fn new(capacity: usize, client: u32) -> Owner
+        ensures { result ≡ new_owner capacity client }
     {
         Owner {
             capacity,
+            client,
             asked: None,
             stage: OwnerStage::Rests(State::Idle, PollEnd::Replied),
             session: None,
@@ -229,6 +232,13 @@ impl Owner {
             return Ok(Passage::Without(capacity));
         }
         Ok(Passage::Bytes(Pipe::new(alloc, capacity)?))
+    }
+
+    /// The client whose its jobs are.
+    pub fn client(&self) -> u32
+        ensures { result ≡ self.now.client }
+    {
+        self.client
     }
 
     /// Whether it may be dropped: it is there, and no poll of it is under way.
@@ -700,6 +710,7 @@ impl Owner {
     {
         let Owner {
             capacity: _,
+            client: _,
             asked: _asked,
             stage,
             session: _session,

@@ -25,7 +25,7 @@ pub use Rattle.blocking_laws.specs.declared.step.Answer.{Answer}
 pub use Rattle.blocking_laws.specs.declared.step.Answer.TheVariants.{Gave, Number}
 pub use Rattle.blocking_laws.specs.declared.step.HandleCall.{HandleCall}
 pub use Rattle.blocking_laws.specs.declared.step.Step.{Step}
-pub use Rattle.blocking_laws.specs.declared.step.Step.TheVariants.{Arrive, Ask, Copy, DropOwner, End, Io, Job, Late, Link, New, OfTask, Own, SetLimit, Spawn, Stray, Strike, Sweep, Take, Wait}
+pub use Rattle.blocking_laws.specs.declared.step.Step.TheVariants.{Arrive, Ask, Copy, DropOwner, End, Io, Job, Late, Link, New, OfTask, Own, SetClientLimit, SetLimit, Spawn, Stray, Strike, Sweep, Take, Wait}
 pub use Rattle.blocking_laws.specs.declared.step.TaskCall.{TaskCall}
 pub use Rattle.blocking_laws.specs.declared.step.TaskCall.TheVariants.{Cancel, Detach, Drop, Poll}
 pub use Rattle.blocking_crew.specs.declared.hand.Hand.{Hand}

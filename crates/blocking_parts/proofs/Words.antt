@@ -12,15 +12,15 @@ pub use Rattle.blocking_core.specs.Writing.{write_next}
 -- of the pool
 pub use Rattle.blocking_pool.specs.Growth.{Narrows, Growth}
 pub use Rattle.blocking_pool.specs.Jobs.{JobNumber, Job as Entry, one_if}
-pub use Rattle.blocking_pool.specs.Lists.{is_in}
+pub use Rattle.blocking_pool.specs.Lists.{first_of, is_in}
 pub use Rattle.blocking_pool.specs.Wakes.{wake_of}
 -- of the laws
-pub use Rattle.blocking_laws.specs.Answers.{take_from, end_of, PoolAnswers}
+pub use Rattle.blocking_laws.specs.Answers.{take_from, take_answer, end_of, PoolAnswers}
 pub use Rattle.blocking_laws.specs.Bare.{is_bare_answer, is_bare_call, is_bare}
 pub use Rattle.blocking_laws.specs.Counts.{starts, arrivals}
 pub use Rattle.blocking_laws.specs.Growth.{IsPlanned}
 pub use Rattle.blocking_laws.specs.JobTable.{Kind, Calling, Writing, Streaming, Seeking, Operating, JobAction, FindRoom, Peek, SendItem, Finish, Over, next_after_answer, next_but_wake, wake_first, next_of_job, is_answer, is_asking, is_over, fault, has_finished, has_given_up}
-pub use Rattle.blocking_laws.specs.Jobs.{accepted_by, accepted_jobs, accepts, tasks, newcomer, holder, as_owner, is_holder, woken_by, is_woken, cancels, is_cancelled, ends_for_good, has_ended, lets_go, is_marked, is_to_drop, sweeps, stands_by, is_queued, is_running, is_parked, standing}
+pub use Rattle.blocking_laws.specs.Jobs.{accepted_by, accepted_jobs, accepts, client_made, client_of_owner, client_of_step, makes, tasks, newcomer, holder, as_owner, is_holder, woken_by, is_woken, cancels, is_cancelled, ends_for_good, has_ended, lets_go, is_marked, is_to_drop, sweeps, stands_by, is_queued, is_running, is_parked, standing}
 pub use Rattle.blocking_laws.specs.Legal.{PoolLaw}
 pub use Rattle.blocking_laws.specs.OwnerSeats.{is_job_seated}
 pub use Rattle.blocking_laws.specs.Queue.{queue, ready, times}
@@ -51,4 +51,4 @@ pub use Rattle.blocking_parts.specs.Carried.{bytes_of_answer, bytes_of_call, byt
 pub use Rattle.blocking_parts.specs.Moves.{Move, Idles, Makes, Asks, Owns, Lends, Delivers, IsDropped, Begins, Calls, Works, IsAnswered, Parks, Passes, IsWoken, IsStruck, Notes, step_by, step_of, task_call, call_of, rows_after_add, tasks_after_add, lent_step, rows_after, tasks_after, owners_after, may_call_in, rests_in, may_ask_in, may_own, may_own_in, has_action_in, is_pass, IsDue, AsksBy, IsNote, May, CrewMoves, is_own_step, Moves, CopierMoves, Steps}
 pub use Rattle.blocking_parts.specs.Parts.{Parts, row_of, owner_by, owner_of, InHand, job_with, job_in, job_at, places_of, next_in, next_at, done_by, done_in, task_let_go, owner_let_go, let_go_of, let_go_by}
 pub use Rattle.blocking_parts.specs.Rows.{party_of, owner_in, kind_of, call_row, session_row, call_action, action_of, is_first, is_at_first, call_step_by, call_step, call_after, session_step, job_after, Done, call_done, session_seen, session_done, done, IsDone, core_after_answer, IsActed, IsActedFor}
-pub use Rattle.blocking_parts.specs.Ties.{CoreAs, PlaceAs, RowAs, GaveAs, HasRow, Rowed, Marked, is_waiting_in, is_left, seated_in, is_number, IsMet, Crossed, moment, Tied, KeepsLaws, IsFree, IsLawful}
+pub use Rattle.blocking_parts.specs.Ties.{Assigned, CoreAs, PlaceAs, RowAs, GaveAs, HasRow, Rowed, Marked, is_waiting_in, is_left, seated_in, is_number, IsMet, Crossed, moment, Tied, KeepsLaws, IsFree, IsLawful}

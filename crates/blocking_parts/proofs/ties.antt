@@ -4,6 +4,7 @@ pub mod Events
 pub mod Hands
 pub mod Releases
 pub mod CrewDemands
+pub mod Clients
 pub mod JobSteps
 pub mod Tasks
 pub mod Marks

@@ -21,7 +21,7 @@ use Rattle.blocking_laws.specs.declared.event.WaitEnd.TheVariants.{Woken, TimedO
 use Rattle.blocking_laws.specs.declared.step.Answer.{Answer}
 use Rattle.blocking_laws.specs.declared.step.HandleCall.{HandleCall}
 use Rattle.blocking_laws.specs.declared.step.Step.{Step}
-use Rattle.blocking_laws.specs.declared.step.Step.TheVariants.{New, Ask, Own, DropOwner, Spawn, OfTask, Arrive, Take, Job, Io, End, Wait, Late, SetLimit, Sweep, Stray, Strike, Link, Copy}
+use Rattle.blocking_laws.specs.declared.step.Step.TheVariants.{New, Ask, Own, DropOwner, Spawn, OfTask, Arrive, Take, Job, Io, End, Wait, Late, SetLimit, SetClientLimit, Sweep, Stray, Strike, Link, Copy}
 use Rattle.blocking_laws.specs.declared.step.TaskCall.{TaskCall}
 use Rattle.blocking_laws.specs.declared.step.TaskCall.TheVariants.{Poll, Cancel, Detach, Drop}
 use Rattle.blocking_pool.specs.Jobs.{JobNumber}
@@ -34,8 +34,8 @@ use Rattle.blocking_parts.specs.declared.row.Row.{Row}
 pub data Move : Type 0 where
   -- the step has no action
   Idles : Step → Move
-  -- an owner is made, whose pipes hold so many bytes
-  Makes : ℕ → Move
+  -- an owner of a client is made, whose pipes hold so many bytes
+  Makes : ℕ → ℕ → Move
   -- by this step a poll of owner h begins, and asks for this
   Asks : Step → ℕ → HandleCall → Owner → Move
   -- the poll of owner h does this, which asks no pool
@@ -46,8 +46,8 @@ pub data Move : Type 0 where
   Delivers : ℕ → Owner → JobNumber → Move
   -- owner h is dropped
   IsDropped : ℕ → Owner → Move
-  -- a new call, by what the pool answers
-  Begins : Result JobNumber Refusal → Move
+  -- a new call of a client, by what the pool answers
+  Begins : ℕ → Result JobNumber Refusal → Move
   -- task k is called
   Calls : ℕ → TaskCall → Task → Move
   -- the job in the hand of worker v does this
@@ -79,18 +79,19 @@ step_by (crew.Take v) = Take v
 step_by (crew.End v) = End v
 step_by (crew.Wait v end) = wait_step end v
 step_by (crew.SetLimit n) = SetLimit n
+step_by (crew.SetClientLimit limit) = SetClientLimit limit
 step_by _ = Sweep
 
 -- the step of a move
 abbrev pub step_of : Move → Step
 step_of (Idles step) = step
-step_of (Makes capacity) = New capacity
+step_of (Makes capacity client) = New capacity client
 step_of (Asks step h call owner) = step
 step_of (Owns h owner done) = Own h
 step_of (Lends h owner added) = Own h
 step_of (Delivers h owner number) = Own h
 step_of (IsDropped h owner) = DropOwner h
-step_of (Begins added) = Spawn
+step_of (Begins client added) = Spawn client
 step_of (Calls k call task) = OfTask k call
 step_of (Works v job done) = Job v
 step_of (IsAnswered v job answer) = Io v answer
@@ -109,16 +110,16 @@ task_call k Cancel task = crew.LetGo (ByTask k) (task_act Cancel task) (Some tas
 task_call k Detach task = crew.Tell (ByTask k) (task_act Detach task)
 task_call k Drop task = crew.LetGo (ByTask k) (task_act Drop task) (Some task.number)
 
--- the call of the crew that a move makes; an idle one makes none. The ticket of a job that parks bears a mark where its owner was dropped.
+-- the call of the crew that a move makes; an idle one makes none. The job of a session is of its owner's client. The ticket of a job that parks bears a mark where its owner was dropped.
 abbrev pub call_of : Parts → Move → crew.Call
 call_of w (Idles step) = crew.Sweep
-call_of w (Makes capacity) = crew.Tell (ByOwner (length w.owners)) (Made (length w.owners) capacity)
+call_of w (Makes capacity client) = crew.Tell (ByOwner (length w.owners)) (Made (length w.owners) capacity)
 call_of w (Asks step h call owner) = crew.Tell (ByOwner h) (Asked call)
 call_of w (Owns h owner done) = crew.Tell (ByOwner h) done.act
-call_of w (Lends h owner added) = crew.Add (ByOwner h) added
+call_of w (Lends h owner added) = crew.Add (ByOwner h) owner.client added
 call_of w (Delivers h owner number) = crew.Wake (ByOwner h) number
 call_of w (IsDropped h owner) = crew.LetGo (ByOwner h) HolderDropped (number_of owner)
-call_of w (Begins added) = crew.Add Pool added
+call_of w (Begins client added) = crew.Add Pool client added
 call_of w (Calls k call task) = task_call k call task
 call_of w (Works v job done) = crew.Work v done.act
 call_of w (IsAnswered v job answer) = crew.Work v (Answered answer)
@@ -148,21 +149,21 @@ lent_step (Err why) = owners.IsRefused why
 -- the rows after a move
 abbrev pub rows_after : Parts → Move → List Row
 rows_after w (Lends h owner added) = rows_after_add w.rows (λ number. session_row number h (new_job_of owner)) added
-rows_after w (Begins added) = rows_after_add w.rows (λ number. call_row number (length w.tasks)) added
+rows_after w (Begins client added) = rows_after_add w.rows (λ number. call_row number (length w.tasks)) added
 rows_after w (Works v job done) = slice_set w.rows (job.held.turn.serial - 1) (record job.row { core = done.core })
 rows_after w (IsAnswered v job answer) = slice_set w.rows (job.held.turn.serial - 1) (record job.row { core = core_after_answer answer job.row.core })
 rows_after w move = w.rows
 
 -- the tasks after a move
 abbrev pub tasks_after : Parts → Move → List Task
-tasks_after w (Begins added) = tasks_after_add w.tasks added
+tasks_after w (Begins client added) = tasks_after_add w.tasks added
 tasks_after w (Calls k call task) = slice_set w.tasks k (tasks.task_after (tasks.IsCalled call) task)
 tasks_after w (Works v job done) = done.tasks
 tasks_after w move = w.tasks
 
 -- the owners after a move
 abbrev pub owners_after : Parts → Move → List Owner
-owners_after w (Makes capacity) = w.owners ++ new_owner capacity ∷ []
+owners_after w (Makes capacity client) = w.owners ++ new_owner capacity client ∷ []
 owners_after w (Asks step h call owner) = slice_set w.owners h (owners.owner_after (owners.IsAsked call) owner)
 owners_after w (Owns h owner done) = slice_set w.owners h done.owner
 owners_after w (Lends h owner added) = slice_set w.owners h (owners.owner_after (lent_step added) owner)
@@ -202,11 +203,11 @@ may_own_in (Some owner) = may_own (next_of owner) (did owner)
 
 -- Whether a step has an action, where no owner is lent to a copier. Those of copiers have none here.
 abbrev pub has_action_in : Parts → Step → Bool
-has_action_in w (New capacity) = true
+has_action_in w (New capacity client) = true
 has_action_in w (Ask h call) = may_ask_in (slice_get w.owners h) call
 has_action_in w (Own h) = may_own_in (slice_get w.owners h)
 has_action_in w (DropOwner h) = rests_in (slice_get w.owners h)
-has_action_in w Spawn = true
+has_action_in w (Spawn client) = true
 has_action_in w (OfTask k call) = may_call_in (slice_get w.tasks k) call
 has_action_in w Arrive = crew.has_action w.crew crew.Arrive
 has_action_in w (Take v) = crew.has_action w.crew (crew.Take v)
@@ -216,6 +217,7 @@ has_action_in w (End v) = is_turn_end (next_at w v)
 has_action_in w (Wait v) = crew.has_action w.crew (crew.Wait v Woken)
 has_action_in w (Late v) = crew.has_action w.crew (crew.Wait v TimedOut)
 has_action_in w (SetLimit n) = crew.has_action w.crew (crew.SetLimit n)
+has_action_in w (SetClientLimit limit) = crew.has_action w.crew (crew.SetClientLimit limit)
 has_action_in w Sweep = true
 has_action_in w (Stray s) = is_some (row_of w.rows s)
 has_action_in w (Strike s) = let_go_by w (row_of w.rows s)
@@ -231,6 +233,7 @@ is_pass (crew.Take v) = true
 is_pass (crew.End v) = true
 is_pass (crew.Wait v end) = true
 is_pass (crew.SetLimit n) = true
+is_pass (crew.SetClientLimit limit) = true
 is_pass crew.Sweep = true
 is_pass call = false
 
@@ -260,13 +263,13 @@ IsNote who act = ⊥
 -- Whether a move may be made: whom it names is there, and may do so.
 abbrev pub May : Parts → Move → Type 0
 May w (Idles step) = has_action_in w step ≡ false
-May w (Makes capacity) = Unit {0}
+May w (Makes capacity client) = Unit {0}
 May w (Asks step h call owner) = IsThere w h owner × ((may_ask owner call ≡ true) × AsksBy step h call)
 May w (Owns h owner done) = IsThere w h owner × (did owner ≡ Some done)
 May w (Lends h owner added) = IsThere w h owner × (next_of owner ≡ next.Begins)
 May w (Delivers h owner number) = IsThere w h owner × (note_at owner.stage ≡ Some number)
 May w (IsDropped h owner) = IsThere w h owner × (rests owner ≡ true)
-May w (Begins added) = Unit {0}
+May w (Begins client added) = Unit {0}
 May w (Calls k call task) = (slice_get w.tasks k ≡ Some task) × (may_be task.stage call ≡ true)
 May w (Works v job done) = (job_at w v ≡ Some job) × (done_by w job ≡ Some done)
 May w (IsAnswered v job answer) = (job_at w v ≡ Some job) × (is_answered_action (next_at w v) answer ≡ true)

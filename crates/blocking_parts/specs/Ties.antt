@@ -14,7 +14,7 @@ use Rattle.blocking_lanes.specs.Sessions.{Session}
 use Rattle.blocking_lanes.specs.Tasks.{Task}
 use Rattle.blocking_lanes.specs.Ties.{Tasked}
 use Rattle.blocking_laws.specs.JobTable.{Kind, WakeHolder, Over, next_of_job, next_but_wake, has_finished, has_given_up}
-use Rattle.blocking_laws.specs.Jobs.{accepted_jobs, holder, standing, is_parked, is_running, is_woken, is_to_drop, is_marked, has_ended}
+use Rattle.blocking_laws.specs.Jobs.{accepted_jobs, client_of_owner, holder, standing, is_parked, is_running, is_woken, is_to_drop, is_marked, has_ended}
 use Rattle.blocking_laws.specs.Legal.{PoolLaw}
 use Rattle.blocking_laws.specs.Lent.{copiers, has_owner}
 use Rattle.blocking_laws.specs.OwnerLaws.{OwnerLaws}
@@ -138,13 +138,20 @@ Crossed w past =
 abbrev pub moment : Parts → Step → Event → Moment
 moment new step e = record { step = step; event = record e { owner = owner_of new.rows e.job } }
 
+-- ---- clients
+
+-- each owner is of the client that it was made for
+abbrev pub Assigned : List Owner → List Moment → Type 0
+Assigned owners past = (h : ℕ) (owner : Owner) → slice_get owners h ≡ Some owner → owner.client ≡ client_of_owner past h
+
 -- ---- all of it
 
--- The parts hang together with what was seen: the crew, the tasks, the owners, the rows, the marks, and who waits for whom.
+-- The parts hang together with what was seen: the crew, the tasks, the owners and their clients, the rows, the marks, and who waits for whom.
 pub record Tied (setting : ℕ) (plan : List Bool) (w : Parts) (past : List Moment) : Type 0 where
   pub crewed : CrewHolds setting plan w.crew past
   pub tasked : Tasked w.tasks past
   pub owned : Owned w.owners past
+  pub assigned : Assigned w.owners past
   pub rowed : Rowed w past
   pub marks : Marked past
   pub crossed : Crossed w past

@@ -92,11 +92,11 @@ impl Parts {
         ensures err { OnErr result (self.new ≡ self.old) }
     {
         match step {
-            Step::New(capacity) => self.make(capacity),
+            Step::New(capacity, client) => self.make(capacity, client),
             Step::Ask(owner, call) => self.ask(owner, call),
             Step::Own(owner) => self.own(owner, starter),
             Step::DropOwner(owner) => Ok(self.drop_owner(owner)),
-            Step::Spawn => self.spawn(starter),
+            Step::Spawn(client) => self.spawn(client, starter),
             Step::OfTask(number, call) => Ok(self.of_task(number, call)),
             Step::Arrive => self.arrive(),
             Step::Take(worker) => Ok(self.take(worker, starter)),
@@ -106,6 +106,7 @@ impl Parts {
             Step::Wait(worker) => Ok(self.wait(worker, WaitEnd::Woken, starter)),
             Step::Late(worker) => Ok(self.wait(worker, WaitEnd::TimedOut, starter)),
             Step::SetLimit(limit) => Ok(self.set_limit(limit)),
+            Step::SetClientLimit(limit) => Ok(self.set_client_limit(limit)),
             Step::Sweep => Ok(self.sweep(starter)),
             Step::Stray(serial) => Ok(self.stray(serial, starter)),
             Step::Strike(serial) => Ok(self.strike(serial, starter)),
@@ -125,14 +126,15 @@ impl Parts {
         row.core.owner()
     }
 
-    // An owner is made, whose pipes hold so many bytes; 0 stands for the default.
-    fn make(&mut self, capacity: usize) -> Result<Event, AllocError>
-        ensures ok { IfOk result (λ e. Moves NeverAsked (step.New capacity) self.old e self.new) }
+    // An owner of this client is made, whose pipes hold so many bytes; 0 stands for the default.
+    fn make(&mut self, capacity: usize, client: u32) -> Result<Event, AllocError>
+        ensures ok { IfOk result
+            (λ e. Moves NeverAsked (step.New capacity client) self.old e self.new) }
         ensures err { OnErr result (self.new ≡ self.old) }
     {
         self.owners.reserve(1)?;
         let place = self.owners.len();
-        match self.owners.push(Owner::new(capacity)) {
+        match self.owners.push(Owner::new(capacity, client)) {
             Ok(()) => {
                 let act = Act::Made(place, capacity);
                 Ok(self.crew.tell(Party::Owner(place), act))
@@ -218,7 +220,8 @@ impl Parts {
         }
     }
 
-    // The poll of this owner begins a session: its memory is had first. Where there is none for its pipe, the crew tells the refusal.
+    // The poll of this owner begins a session, whose job is of the owner's client: its memory is had first. Where there is none for its pipe,
+    // the crew tells the refusal.
     fn lend<S: Starter>(&mut self, place: usize, starter: &mut S) -> Result<Event, AllocError>
         requires there { place < length self.old.owners }
         requires begins { IfSome (slice_get self.old.owners place) (λ owner. next_of owner ≡ next.Begins) }
@@ -230,7 +233,8 @@ impl Parts {
         let Ok(passage) = self.owners[place].passage(self.alloc) else {
             return Ok(self.refuse(place));
         };
-        let added = self.crew.add(Party::Owner(place), starter);
+        let client = self.owners[place].client();
+        let added = self.crew.add(Party::Owner(place), client, starter);
         let owner = &mut self.owners[place];
         match added.number {
             Ok(number) => {
@@ -298,15 +302,15 @@ impl Parts {
         self.crew.let_go(party, Act::HolderDropped, number)
     }
 
-    // A call is handed to the pool. Where it is accepted, it gets a row and a task.
-    fn spawn<S: Starter>(&mut self, starter: &mut S) -> Result<Event, AllocError>
+    // A call of this client is handed to the pool. Where it is accepted, it gets a row and a task.
+    fn spawn<S: Starter>(&mut self, client: u32, starter: &mut S) -> Result<Event, AllocError>
         ensures ok { IfOk result
-            (λ e. Moves (S.may_answer starter.old) step.Spawn self.old e self.new) }
+            (λ e. Moves (S.may_answer starter.old) (step.Spawn client) self.old e self.new) }
         ensures err { OnErr result (self.new ≡ self.old) }
     {
         self.rows.reserve(1)?;
         self.tasks.reserve(1)?;
-        let added = self.crew.add(Party::Pool, starter);
+        let added = self.crew.add(Party::Pool, client, starter);
         match added.number {
             Ok(number) => {
                 put(&mut self.rows, Row::of_call(number, self.tasks.len()));
@@ -448,6 +452,13 @@ impl Parts {
         ensures { Moves NeverAsked (step.SetLimit limit) self.old result self.new }
     {
         self.crew.set_limit(limit)
+    }
+
+    // The limit of running jobs for each client is set, unless it is 0, or taken away.
+    fn set_client_limit(&mut self, limit: Option<usize>) -> Event
+        ensures { Moves NeverAsked (step.SetClientLimit limit) self.old result self.new }
+    {
+        self.crew.set_client_limit(limit)
     }
 
     // The parked jobs that bear a mark are put back.

@@ -5,6 +5,9 @@ use Rattle.blocking_laws.specs.declared.event.Event.{Event}
 use Rattle.blocking_laws.specs.declared.event.Moment.{Moment}
 use Rattle.blocking_laws.specs.declared.step.Step.{Step}
 use Rattle.blocking_laws.specs.Behind.{AllWriteBehind}
+use Rattle.blocking_laws.specs.Queue.{NeverLimited, entries, queue, takes}
+use Rattle.blocking_laws.specs.Seen.{IsBeginning}
+use Rattle.blocking_laws.proofs.Queues.{unlimited_so}
 use Rattle.blocking_laws.proofs.WrittenBytes.{all_write_behind}
 use Rattle.blocking_copiers.specs.Assemblies.{Assembled}
 use Rattle.blocking_copiers.specs.Ties.{IsLawful}
@@ -51,3 +54,7 @@ module _ (setting : ℕ) (plan : List Bool) (w : Assembled) (past : List Moment)
   -- no more of what an owner wrote waits than its pipe holds
   pub behind_now : AllWriteBehind past
   behind_now = all_write_behind setting plan past lawful.legal
+
+  -- jobs are taken in the order in which they entered, where no client limit was ever set
+  pub unlimited_now : NeverLimited past → IsBeginning (takes past) (entries past)
+  unlimited_now free = (queue past, unlimited_so setting plan past lawful.legal.pool free)

@@ -5,7 +5,8 @@ ghost use Rattle.blocking_laws.specs.Counts.{workers, idle};
 ghost use Rattle.blocking_laws.specs.Growth.{IsPlanned, known_limit};
 ghost use Rattle.blocking_laws.specs.Behind.{AllWriteBehind};
 ghost use Rattle.blocking_laws.specs.Legal.{Legal};
-ghost use Rattle.blocking_laws.specs.Queue.{queue};
+ghost use Rattle.blocking_laws.specs.Queue.{NeverLimited, entries, queue, takes};
+ghost use Rattle.blocking_laws.specs.Seen.{IsBeginning};
 ghost use Rattle.blocking_copiers.specs.Assemblies.{Does};
 ghost use Rattle.blocking_world.specs.Runs.{Adds, StopsShort};
 ghost use Rattle.blocking_laws.specs.Served.{IsServed};
@@ -181,17 +182,20 @@ fn close_with<L: Ledger>(assembly: Assembly, blank: Blank)
     assembly.close(&mut starter);
 }
 
-/// Takes the steps, one after the other, and answers one event for each.
+/// Takes the steps, one after the other, and answers one event for each. Where no client limit was ever set, jobs are taken in the order in
+/// which they entered the queue, whatever their clients.
 ///
 /// Err where there was no room for the world's own lists: the world is then where the steps so far left it. The room for a
 /// step and its event is had before the step acts.
-#[tactic(auto, using(blocking_copiers::proofs::Readings::served_now, blocking_copiers::proofs::Readings::staffed_now, blocking_copiers::proofs::Readings::held_now, crate::proofs::Runs::behind_now))]
+#[tactic(auto, using(blocking_copiers::proofs::Readings::served_now, blocking_copiers::proofs::Readings::staffed_now, blocking_copiers::proofs::Readings::held_now, crate::proofs::Runs::behind_now, crate::proofs::Runs::unlimited_now))]
 pub fn run(alloc: Global, world: &mut World, steps: &[Step]) -> Result<Vec<Event>, AllocError>
     ensures ok { IfOk result
         (λ events. Adds steps.now events.items world.old.history world.new.history) }
     ensures err { OnErr result (StopsShort steps.now world.old.history world.new.history) }
     ensures legal { Legal world.new.history.setting world.new.history.plan world.new.history.past }
     ensures independent { AreIndependent world.new.history.past }
+    ensures unlimited { NeverLimited world.new.history.past →
+        IsBeginning (takes world.new.history.past) (entries world.new.history.past) }
     ensures behind { AllWriteBehind world.new.history.past }
     ensures served { IsServed world.new.history.past }
     ensures staffed { IsStaffed world.new.passes world.new.turns world.new.history.past }

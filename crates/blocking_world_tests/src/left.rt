@@ -424,7 +424,7 @@ impl Play<'_> {
     // Begins the session, whose call is polled twice: what is written fills the pipe so. Then that may be stopped. Whether the job acts so often before.
     fn begin(&mut self) -> Result<bool, AllocError> {
         let Session { call, stop, .. } = self.session;
-        self.take(Step::New(2))?;
+        self.take(Step::New(2, 0))?;
         self.polls(call, false)?;
         self.polls(call, true)?;
         let Some(acts) = stop else {

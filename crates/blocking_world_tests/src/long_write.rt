@@ -11,7 +11,7 @@ fn long_write(alloc: Global) -> Result<Vec<(Step, &'static str)>, AllocError> {
         .map(|place| (place % 256) as u8)
         .collect(alloc)?;
     Ok(vec![in alloc;
-        (Step::New(0), "made 0"),
+        (Step::New(0, 0), "made 0"),
         (Step::Ask(0, HandleCall::Write(Bytes::new(bytes))), "asked"),
         (Step::Own(0), "accepted 1 +1"),
         (Step::Own(0), "put 70000"),

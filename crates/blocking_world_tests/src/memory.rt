@@ -105,12 +105,12 @@ fn insists(
 // Six calls to be handed in.
 fn six_calls() -> [Step; 6] {
     [
-        Step::Spawn,
-        Step::Spawn,
-        Step::Spawn,
-        Step::Spawn,
-        Step::Spawn,
-        Step::Spawn,
+        Step::Spawn(0),
+        Step::Spawn(0),
+        Step::Spawn(0),
+        Step::Spawn(0),
+        Step::Spawn(0),
+        Step::Spawn(0),
     ]
 }
 

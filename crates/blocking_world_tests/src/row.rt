@@ -8,10 +8,12 @@ use std::alloc::{AllocError, Global};
 use std::test::Fail;
 
 // A step as plain data. An owner is asked to write the bytes of a text. What a job asks for is answered by a number (`Io`), by the bytes
-// of a text (`Gives`), by a flush that is done (`Flushed`), or by an item (`GivesItem`) or none (`HasNoItem`).
+// of a text (`Gives`), by a flush that is done (`Flushed`), or by an item (`GivesItem`) or none (`HasNoItem`). `New` and `Spawn` name no
+// client; `NewFor` and `SpawnFor` do.
 #[derive(Clone, Copy)]
 pub(crate) enum PlainStep {
     New(usize),
+    NewFor(usize, u32),
     AskRead(usize, u64),
     AskWrite(usize, &'static str),
     AskFlush(usize),
@@ -19,6 +21,7 @@ pub(crate) enum PlainStep {
     AskSeek(usize, Position),
     Own(usize),
     Spawn,
+    SpawnFor(u32),
     OfTask(usize, TaskCall),
     Arrive,
     Take(usize),
@@ -30,6 +33,8 @@ pub(crate) enum PlainStep {
     HasNoItem(usize),
     End(usize),
     Late(usize),
+    Strike(u64),
+    Clients(Option<usize>),
 }
 
 impl PlainStep {
@@ -45,14 +50,16 @@ impl PlainStep {
     pub(crate) fn step(self, alloc: Global) -> Result<Step, AllocError> {
         let bytes = Bytes::new(self.text().as_bytes().to_vec(alloc)?);
         Ok(match self {
-            PlainStep::New(capacity) => Step::New(capacity),
+            PlainStep::New(capacity) => Step::New(capacity, 0),
+            PlainStep::NewFor(capacity, client) => Step::New(capacity, client),
             PlainStep::AskRead(owner, most) => Step::Ask(owner, HandleCall::Read(most)),
             PlainStep::AskWrite(owner, _) => Step::Ask(owner, HandleCall::Write(bytes)),
             PlainStep::AskFlush(owner) => Step::Ask(owner, HandleCall::Flush),
             PlainStep::AskNext(owner) => Step::Ask(owner, HandleCall::Next),
             PlainStep::AskSeek(owner, to) => Step::Ask(owner, HandleCall::Seek(to)),
             PlainStep::Own(owner) => Step::Own(owner),
-            PlainStep::Spawn => Step::Spawn,
+            PlainStep::Spawn => Step::Spawn(0),
+            PlainStep::SpawnFor(client) => Step::Spawn(client),
             PlainStep::OfTask(task, call) => Step::OfTask(task, call),
             PlainStep::Arrive => Step::Arrive,
             PlainStep::Take(worker) => Step::Take(worker),
@@ -64,6 +71,8 @@ impl PlainStep {
             PlainStep::HasNoItem(worker) => Step::Io(worker, Answer::NoItem),
             PlainStep::End(worker) => Step::End(worker),
             PlainStep::Late(worker) => Step::Late(worker),
+            PlainStep::Strike(serial) => Step::Strike(serial),
+            PlainStep::Clients(limit) => Step::SetClientLimit(limit),
         })
     }
 }

@@ -62,6 +62,8 @@ fn texts_at_the_pool(rt: HostRuntime) -> Result<(), Fail> {
         (Act::JobCancelled(3, Woke::Marked), "cancelled 3 marked"),
         (Act::JobCancelled(3, Woke::Nothing), "cancelled 3 nothing"),
         (Act::LimitSet(4), "limit 4"),
+        (Act::ClientLimitSet(Some(1)), "clients 1"),
+        (Act::ClientLimitSet(None), "clients none"),
         (Act::Swept(0), "swept 0"),
         (Act::NoAction, "nothing"),
     ];

@@ -32,62 +32,62 @@ to_say : (told : Option Told) → is_some told ≡ true → is_rest (next_to_say
 to_say told known = grind arith
 
 -- the call of a poll is under way
-polled_is : (bytes : ℕ) (asked : Option HandleCall) (p : OwnerMachine ℕ) (last : Option Session) (cut : List Event)
-    → (t : OwnerAs (owner_by_parts bytes asked (OwnerStage.Polls p) last) cut) → under_way (own cut) ≡ Some t.stage.0.call
-polled_is bytes asked p last cut t = t.polled ∙ sym t.asked ∙ t.stage.0.asked_is
+polled_is : (bytes client : ℕ) (asked : Option HandleCall) (p : OwnerMachine ℕ) (last : Option Session) (cut : List Event)
+    → (t : OwnerAs (owner_by_parts bytes client asked (OwnerStage.Polls p) last) cut) → under_way (own cut) ≡ Some t.stage.0.call
+polled_is bytes client asked p last cut t = t.polled ∙ sym t.asked ∙ t.stage.0.asked_is
 
-woken_is : (bytes : ℕ) (asked : Option HandleCall) (p : OwnerMachine ℕ) (note : _) (last : Option Session) (cut : List Event)
-    → (t : OwnerAs (owner_by_parts bytes asked (OwnerStage.Wakes p note) last) cut) → under_way (own cut) ≡ Some t.stage.0.call
-woken_is bytes asked p note last cut t = t.polled ∙ sym t.asked ∙ t.stage.0.asked_is
+woken_is : (bytes client : ℕ) (asked : Option HandleCall) (p : OwnerMachine ℕ) (note : _) (last : Option Session) (cut : List Event)
+    → (t : OwnerAs (owner_by_parts bytes client asked (OwnerStage.Wakes p note) last) cut) → under_way (own cut) ≡ Some t.stage.0.call
+woken_is bytes client asked p note last cut t = t.polled ∙ sym t.asked ∙ t.stage.0.asked_is
 
-rest_at : (bytes : ℕ) (asked : Option HandleCall) (here : OwnerStage) (last : Option Session) (cut : List Event) → OwnerAs (owner_by_parts bytes asked here last) cut
+rest_at : (bytes client : ℕ) (asked : Option HandleCall) (here : OwnerStage) (last : Option Session) (cut : List Event) → OwnerAs (owner_by_parts bytes client asked here last) cut
     → is_poll_over (under_way (own cut)) ≡ is_rest (next_at here last)
-rest_at bytes asked (OwnerStage.Wakes p note) last cut t = ap is_poll_over (woken_is bytes asked p note last cut t)
-rest_at bytes asked (OwnerStage.Polls p) last cut t = ap is_poll_over (polled_is bytes asked p last cut t) ∙ by_next p.next refl
+rest_at bytes client asked (OwnerStage.Wakes p note) last cut t = ap is_poll_over (woken_is bytes client asked p note last cut t)
+rest_at bytes client asked (OwnerStage.Polls p) last cut t = ap is_poll_over (polled_is bytes client asked p last cut t) ∙ by_next p.next refl
   where
     by_next : (a : OwnerAction ℕ) → p.next ≡ a → false ≡ is_rest (next_by (owner_next p) last)
-    by_next (OwnerAction.Reply r) is = sym (ap (λ a. is_rest (next_by a last)) (doing p t.stage.1 ∙ is) ∙ to_say (reply_as (item_in last) r) (is_some_reply (item_in last) r (fits_at bytes asked p cut last (OwnerAction.Reply r) t is).0))
-    by_next OwnerAction.Deliver is = absurd (fits_at bytes asked p cut last OwnerAction.Deliver t is)
-    by_next OwnerAction.Pending is = absurd (fits_at bytes asked p cut last OwnerAction.Pending t is)
+    by_next (OwnerAction.Reply r) is = sym (ap (λ a. is_rest (next_by a last)) (doing p t.stage.1 ∙ is) ∙ to_say (reply_as (item_in last) r) (is_some_reply (item_in last) r (fits_at bytes client asked p cut last (OwnerAction.Reply r) t is).0))
+    by_next OwnerAction.Deliver is = absurd (fits_at bytes client asked p cut last OwnerAction.Deliver t is)
+    by_next OwnerAction.Pending is = absurd (fits_at bytes client asked p cut last OwnerAction.Pending t is)
     by_next _ is = sym (ap (λ a. is_rest (next_by a last)) (doing p t.stage.1 ∙ is))
-rest_at bytes asked _ last cut t = ap is_poll_over t.polled
+rest_at bytes client asked _ last cut t = ap is_poll_over t.polled
 
 -- an owner has something to do exactly while a poll of it is under way
 pub rests_next : (owner : Owner) (cut : List Event) → OwnerAs owner cut → is_poll_over (under_way (own cut)) ≡ is_rest (next_of owner)
-rests_next owner cut t = rest_at owner.capacity owner.asked owner.stage owner.session cut t
+rests_next owner cut t = rest_at owner.capacity owner.client owner.asked owner.stage owner.session cut t
 
-rests_at : (bytes : ℕ) (asked : Option HandleCall) (here : OwnerStage) (last : Option Session) (cut : List Event) → OwnerAs (owner_by_parts bytes asked here last) cut
-    → seen_rests (own cut) ≡ rests (owner_by_parts bytes asked here last)
-rests_at bytes asked (OwnerStage.Rests st end) last cut t = rw (t.made, t.gone.1, t.polled) refl
-rests_at bytes asked (OwnerStage.Polls p) last cut t = rw (t.made, t.gone.1, polled_is bytes asked p last cut t) refl
-rests_at bytes asked (OwnerStage.Wakes p note) last cut t = rw (t.made, t.gone.1, woken_is bytes asked p note last cut t) refl
-rests_at bytes asked _ last cut t = rw (t.made, t.gone.1) refl
+rests_at : (bytes client : ℕ) (asked : Option HandleCall) (here : OwnerStage) (last : Option Session) (cut : List Event) → OwnerAs (owner_by_parts bytes client asked here last) cut
+    → seen_rests (own cut) ≡ rests (owner_by_parts bytes client asked here last)
+rests_at bytes client asked (OwnerStage.Rests st end) last cut t = rw (t.made, t.gone.1, t.polled) refl
+rests_at bytes client asked (OwnerStage.Polls p) last cut t = rw (t.made, t.gone.1, polled_is bytes client asked p last cut t) refl
+rests_at bytes client asked (OwnerStage.Wakes p note) last cut t = rw (t.made, t.gone.1, woken_is bytes client asked p note last cut t) refl
+rests_at bytes client asked _ last cut t = rw (t.made, t.gone.1) refl
 
 -- and it rests where the law says
 pub rests_is : (owner : Owner) (cut : List Event) → OwnerAs owner cut → seen_rests (own cut) ≡ rests owner
-rests_is owner cut t = rests_at owner.capacity owner.asked owner.stage owner.session cut t
+rests_is owner cut t = rests_at owner.capacity owner.client owner.asked owner.stage owner.session cut t
 
-asked_at : (bytes : ℕ) (asked : Option HandleCall) (here : OwnerStage) (last : Option Session) (cut : List Event) (call : HandleCall) → OwnerAs (owner_by_parts bytes asked here last) cut
+asked_at : (bytes client : ℕ) (asked : Option HandleCall) (here : OwnerStage) (last : Option Session) (cut : List Event) (call : HandleCall) → OwnerAs (owner_by_parts bytes client asked here last) cut
     → (seen_rests (own cut) && (not (seen_is_closed (own cut)) || is_for_closed call)) ≡ may_ask_at here call
-asked_at bytes asked (OwnerStage.Rests st end) last cut call t =
-    ap (λ b. b && (not (seen_is_closed (own cut)) || is_for_closed call)) (rests_at bytes asked (OwnerStage.Rests st end) last cut t)
+asked_at bytes client asked (OwnerStage.Rests st end) last cut call t =
+    ap (λ b. b && (not (seen_is_closed (own cut)) || is_for_closed call)) (rests_at bytes client asked (OwnerStage.Rests st end) last cut t)
     ∙ ap (λ b. not b || is_for_closed call) (gone_is (own cut) st t.stage.0) ∙ may_be_asked st call
-asked_at bytes asked here last cut call t =
-    ap (λ b. b && (not (seen_is_closed (own cut)) || is_for_closed call)) (rests_at bytes asked here last cut t)
+asked_at bytes client asked here last cut call t =
+    ap (λ b. b && (not (seen_is_closed (own cut)) || is_for_closed call)) (rests_at bytes client asked here last cut t)
 
 -- and for the result of an operation where one is pending
-again_at : (bytes : ℕ) (asked : Option HandleCall) (here : OwnerStage) (last : Option Session) (cut : List Event) (call : HandleCall) (inner : Bool) → OwnerAs (owner_by_parts bytes asked here last) cut
+again_at : (bytes client : ℕ) (asked : Option HandleCall) (here : OwnerStage) (last : Option Session) (cut : List Event) (call : HandleCall) (inner : Bool) → OwnerAs (owner_by_parts bytes client asked here last) cut
     → (may_ask_at here call && inner && (not (is_again call) || seen_is_pending_operation (own cut))) ≡ (may_ask_at here call && inner && (not (is_again call) || awaits_operation here asked))
-again_at bytes asked (OwnerStage.Rests st end) last cut call inner t = ap (λ b. may_ask_at (OwnerStage.Rests st end) call && inner && (not (is_again call) || b)) (pends_so bytes asked st end last cut t)
-again_at bytes asked _ last cut call inner t = refl
+again_at bytes client asked (OwnerStage.Rests st end) last cut call inner t = ap (λ b. may_ask_at (OwnerStage.Rests st end) call && inner && (not (is_again call) || b)) (pends_so bytes client asked st end last cut t)
+again_at bytes client asked _ last cut call inner t = refl
 
 -- so it may be asked for what the law says
 pub may_ask_is : (owner : Owner) (cut : List Event) (call : HandleCall) → OwnerAs owner cut → seen_may_ask (own cut) call ≡ may_ask owner call
 may_ask_is owner cut call t =
     ap (λ b. b && inner (seen_was_asked_inner (own cut)) && (not (is_again call) || seen_is_pending_operation (own cut)))
-    (asked_at owner.capacity owner.asked owner.stage owner.session cut call t)
+    (asked_at owner.capacity owner.client owner.asked owner.stage owner.session cut call t)
     ∙ ap (λ b. may_ask_at owner.stage call && inner b && (not (is_again call) || seen_is_pending_operation (own cut))) t.gone.2
-    ∙ again_at owner.capacity owner.asked owner.stage owner.session cut call (inner (seen_is_into_inner owner.asked)) t
+    ∙ again_at owner.capacity owner.client owner.asked owner.stage owner.session cut call (inner (seen_is_into_inner owner.asked)) t
   where
     inner : Bool → Bool
     inner b = not b || seen_is_into_inner (Some call)
@@ -127,66 +127,66 @@ fill_some p (Some (HandleCall.Write [])) last owner offered asks some there good
     absurd (omega (arith, count, some))
 fill_some p _ last owner offered asks some there goods = absurd (cc)
 
-some_by : (bytes : ℕ) (asked : Option HandleCall) (p : OwnerMachine ℕ) (cut : List Event) (a : OwnerAction ℕ) (last : Option Session) → OwnerAs (owner_by_parts bytes asked (OwnerStage.Polls p) last) cut
-    → p.next ≡ a → (n : ℕ) → next_by a last ≡ Acts n → is_some (did_in a p last (owner_by_parts bytes asked (OwnerStage.Polls p) last)) ≡ true
-some_by bytes asked p cut (OwnerAction.Reply r) last t is n e =
-    told_some (reply_as (item_in last) r) p (owner_by_parts bytes asked (OwnerStage.Polls p) last) (is_some_reply (item_in last) r (fits_at bytes asked p cut last (OwnerAction.Reply r) t is).0)
-some_by bytes asked p cut (OwnerAction.Fill most) last t is n e =
-    let fits = fits_at bytes asked p cut last (OwnerAction.Fill most) t is in
-    fill_some p asked last (owner_by_parts bytes asked (OwnerStage.Polls p) last) fits.0 (sym t.asked ∙ t.stage.0.asked_is ∙ ap Some fits.1) (subst (λ n. 0 < n) fits.2 fits.3)
+some_by : (bytes client : ℕ) (asked : Option HandleCall) (p : OwnerMachine ℕ) (cut : List Event) (a : OwnerAction ℕ) (last : Option Session) → OwnerAs (owner_by_parts bytes client asked (OwnerStage.Polls p) last) cut
+    → p.next ≡ a → (n : ℕ) → next_by a last ≡ Acts n → is_some (did_in a p last (owner_by_parts bytes client asked (OwnerStage.Polls p) last)) ≡ true
+some_by bytes client asked p cut (OwnerAction.Reply r) last t is n e =
+    told_some (reply_as (item_in last) r) p (owner_by_parts bytes client asked (OwnerStage.Polls p) last) (is_some_reply (item_in last) r (fits_at bytes client asked p cut last (OwnerAction.Reply r) t is).0)
+some_by bytes client asked p cut (OwnerAction.Fill most) last t is n e =
+    let fits = fits_at bytes client asked p cut last (OwnerAction.Fill most) t is in
+    fill_some p asked last (owner_by_parts bytes client asked (OwnerStage.Polls p) last) fits.0 (sym t.asked ∙ t.stage.0.asked_is ∙ ap Some fits.1) (subst (λ n. 0 < n) fits.2 fits.3)
     (lent last (bound bytes) cut p.state t.last t.stage.0.at_is (ap is_lent fits.4))
     (goods_at last (bound bytes) cut Writing t.last (lent_at (own cut) Writing true (t.stage.0.at_is ∙ ap state_as fits.4)).0)
-some_by bytes asked p cut OwnerAction.DropHandle last t is n e = refl
-some_by bytes asked p cut OwnerAction.Close (Some s) t is n e =
-    let fits = fits_at bytes asked p cut (Some s) OwnerAction.Close t is in
-    ap is_some (piped_here s.goods (Some (close_did p s (owner_by_parts bytes asked (OwnerStage.Polls p) (Some s))))
+some_by bytes client asked p cut OwnerAction.DropHandle last t is n e = refl
+some_by bytes client asked p cut OwnerAction.Close (Some s) t is n e =
+    let fits = fits_at bytes client asked p cut (Some s) OwnerAction.Close t is in
+    ap is_some (piped_here s.goods (Some (close_did p s (owner_by_parts bytes client asked (OwnerStage.Polls p) (Some s))))
     (ap is_piped t.last.lent.goods ∙ open_piped (own cut) p.state fits.0 t.stage.0.at_is))
-some_by bytes asked p cut (OwnerAction.Drain most) (Some s) t is n e =
-    let fits = fits_at bytes asked p cut (Some s) (OwnerAction.Drain most) t is in
+some_by bytes client asked p cut (OwnerAction.Drain most) (Some s) t is n e =
+    let fits = fits_at bytes client asked p cut (Some s) (OwnerAction.Drain most) t is in
     let kind = (lent_at (own cut) Reading true (t.stage.0.at_is ∙ ap state_as fits.2)).0 in
-    ap is_some (through_here OfBytes s.goods (Some (drain_did (drained (reach most s) s) p s (owner_by_parts bytes asked (OwnerStage.Polls p) (Some s)))) (t.last.lent.goods ∙ ap goods_of kind))
-some_by bytes asked p cut OwnerAction.Receive (Some s) t is n e =
-    let fits = fits_at bytes asked p cut (Some s) OwnerAction.Receive t is in
+    ap is_some (through_here OfBytes s.goods (Some (drain_did (drained (reach most s) s) p s (owner_by_parts bytes client asked (OwnerStage.Polls p) (Some s)))) (t.last.lent.goods ∙ ap goods_of kind))
+some_by bytes client asked p cut OwnerAction.Receive (Some s) t is n e =
+    let fits = fits_at bytes client asked p cut (Some s) OwnerAction.Receive t is in
     let kind = (lent_at (own cut) Streaming true (t.stage.0.at_is ∙ ap state_as fits.1)).0 in
-    ap is_some (through_here OfItems s.goods (Some (receive_did (received s) p s (owner_by_parts bytes asked (OwnerStage.Polls p) (Some s)))) (t.last.lent.goods ∙ ap goods_of kind))
-some_by bytes asked p cut OwnerAction.PollSlot (Some s) t is n e =
+    ap is_some (through_here OfItems s.goods (Some (receive_did (received s) p s (owner_by_parts bytes client asked (OwnerStage.Polls p) (Some s)))) (t.last.lent.goods ∙ ap goods_of kind))
+some_by bytes client asked p cut OwnerAction.PollSlot (Some s) t is n e =
     let works = acts_of s.number.serial cut in
     look_some s.slot.content (has_finished works) (has_given_up works) (is_none (seen_session (own cut))) (fault (kind_in (seen_last_session (own cut))) works) p
-    (session_after_look s.slot.content s) (owner_by_parts bytes asked (OwnerStage.Polls p) (Some s)) t.last.result.slot (stays (has_given_up works) refl)
+    (session_after_look s.slot.content s) (owner_by_parts bytes client asked (OwnerStage.Polls p) (Some s)) t.last.result.slot (stays (has_given_up works) refl)
   where
     stays : (b : Bool) → has_given_up (acts_of s.number.serial cut) ≡ b → has_given_up (acts_of s.number.serial cut) ≡ false
     stays true is = absurd (let gone = t.last.result.let_go is in let here = t.gone.0 in cc)
     stays false is = is
-some_by bytes asked p cut OwnerAction.PollResult (Some s) t is n e =
+some_by bytes client asked p cut OwnerAction.PollResult (Some s) t is n e =
     let works = acts_of s.number.serial cut in
-    find_some s.result.content (has_result works) (has_found (own cut)) (number works) p (session_after_find s.result.content s) (owner_by_parts bytes asked (OwnerStage.Polls p) (Some s)) t.place.content
-some_by bytes asked p cut OwnerAction.Close None t is n e =
-    let fits = fits_at bytes asked p cut None OwnerAction.Close t is in
+    find_some s.result.content (has_result works) (has_found (own cut)) (number works) p (session_after_find s.result.content s) (owner_by_parts bytes client asked (OwnerStage.Polls p) (Some s)) t.place.content
+some_by bytes client asked p cut OwnerAction.Close None t is n e =
+    let fits = fits_at bytes client asked p cut None OwnerAction.Close t is in
     lent None (bound bytes) cut p.state t.last t.stage.0.at_is (open_lent p.state fits.0)
-some_by bytes asked p cut (OwnerAction.Drain most) None t is n e =
-    let fits = fits_at bytes asked p cut None (OwnerAction.Drain most) t is in
+some_by bytes client asked p cut (OwnerAction.Drain most) None t is n e =
+    let fits = fits_at bytes client asked p cut None (OwnerAction.Drain most) t is in
     lent None (bound bytes) cut p.state t.last t.stage.0.at_is (ap is_lent fits.2)
-some_by bytes asked p cut OwnerAction.Receive None t is n e =
-    let fits = fits_at bytes asked p cut None OwnerAction.Receive t is in
+some_by bytes client asked p cut OwnerAction.Receive None t is n e =
+    let fits = fits_at bytes client asked p cut None OwnerAction.Receive t is in
     lent None (bound bytes) cut p.state t.last t.stage.0.at_is (ap is_lent fits.1)
-some_by bytes asked p cut OwnerAction.PollSlot None t is n e =
-    let fits = fits_at bytes asked p cut None OwnerAction.PollSlot t is in
+some_by bytes client asked p cut OwnerAction.PollSlot None t is n e =
+    let fits = fits_at bytes client asked p cut None OwnerAction.PollSlot t is in
     lent None (bound bytes) cut p.state t.last t.stage.0.at_is (looks_lent t.stage.0.call p.state p.is_at_end fits.0)
-some_by bytes asked p cut OwnerAction.PollResult None t is n e =
-    let fits = fits_at bytes asked p cut None OwnerAction.PollResult t is in
+some_by bytes client asked p cut OwnerAction.PollResult None t is n e =
+    let fits = fits_at bytes client asked p cut None OwnerAction.PollResult t is in
     lent None (bound bytes) cut p.state t.last t.stage.0.at_is (ap is_lent fits.1)
-some_by bytes asked p cut _ last t is n e = absurd (cc)
+some_by bytes client asked p cut _ last t is n e = absurd (cc)
 
-some_at : (bytes : ℕ) (asked : Option HandleCall) (here : OwnerStage) (last : Option Session) (cut : List Event) → OwnerAs (owner_by_parts bytes asked here last) cut → (n : ℕ)
-    → next_at here last ≡ Acts n → is_some (did (owner_by_parts bytes asked here last)) ≡ true
-some_at bytes asked (OwnerStage.Polls p) last cut t n e =
+some_at : (bytes client : ℕ) (asked : Option HandleCall) (here : OwnerStage) (last : Option Session) (cut : List Event) → OwnerAs (owner_by_parts bytes client asked here last) cut → (n : ℕ)
+    → next_at here last ≡ Acts n → is_some (did (owner_by_parts bytes client asked here last)) ≡ true
+some_at bytes client asked (OwnerStage.Polls p) last cut t n e =
     let turn = doing p t.stage.1 in
-    ap (λ a. is_some (did_in a p last (owner_by_parts bytes asked (OwnerStage.Polls p) last))) turn ∙ some_by bytes asked p cut p.next last t refl n (ap (λ a. next_by a last) (sym turn) ∙ e)
-some_at bytes asked _ last cut t n e = absurd (cc)
+    ap (λ a. is_some (did_in a p last (owner_by_parts bytes client asked (OwnerStage.Polls p) last))) turn ∙ some_by bytes client asked p cut p.next last t refl n (ap (λ a. next_by a last) (sym turn) ∙ e)
+some_at bytes client asked _ last cut t n e = absurd (cc)
 
 -- an owner that is to act by itself can
 pub acts_some : (owner : Owner) (cut : List Event) → OwnerAs owner cut → (n : ℕ) → next_of owner ≡ Acts n → is_some (did owner) ≡ true
-acts_some owner cut t n e = some_at owner.capacity owner.asked owner.stage owner.session cut t n e
+acts_some owner cut t n e = some_at owner.capacity owner.client owner.asked owner.stage owner.session cut t n e
 
 -- ---- its job
 
@@ -200,7 +200,7 @@ record Meets (last : Option Session) (kind : Kind) (a : JobAction) (cut : List E
 meets : (owner : Owner) (cut : List Event) (n : ℕ) (kind : Kind) (a : JobAction) → OwnerAs owner cut → kind_of_job n (own cut) ≡ kind → is_in n (jobs_of (own cut)) ≡ true
     → next_but_wake kind (acts_of n cut) ≡ a → is_over a ≡ false → Meets owner.session kind a cut
 meets owner cut n kind a t of among table goes =
-    let l = its_last owner.capacity owner.asked owner.stage owner.session n cut t among (ap (λ k. is_over (next_but_wake k (acts_of n cut))) of ∙ ap is_over table ∙ goes) in
+    let l = its_last owner.capacity owner.client owner.asked owner.stage owner.session n cut t among (ap (λ k. is_over (next_but_wake k (acts_of n cut))) of ∙ ap is_over table ∙ goes) in
     let s = l.session in
     let last : LastAs (Some s) (bound owner.capacity) cut = subst (λ o. LastAs o (bound owner.capacity) cut) l.here t.last in
     let same : kind_in (seen_last_session (own cut)) ≡ kind = sym (kind_is s (bound owner.capacity) cut last) ∙ ap (λ m. kind_of_job m (own cut)) (sym l.same) ∙ of in

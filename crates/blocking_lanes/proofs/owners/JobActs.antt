@@ -56,7 +56,7 @@ answers_it cut AskSeek answer is = is
 answers_it cut AskResult answer is = is
 answers_it cut _ answer is = absurd (cc)
 
-module _ (bytes : ℕ) (asked : Option HandleCall) (here : OwnerStage) (s : Session) (h v first : ℕ) (growth : Growth) (cut : List Event) (t : OwnerAs (owner_by_parts bytes asked here (Some s)) cut) where
+module _ (bytes client : ℕ) (asked : Option HandleCall) (here : OwnerStage) (s : Session) (h v first : ℕ) (growth : Growth) (cut : List Event) (t : OwnerAs (owner_by_parts bytes client asked here (Some s)) cut) where
   -- what the tie of the session is about
   abbrev began : Option SeenSession
   began = seen_last_session (own cut)
@@ -154,7 +154,7 @@ module _ (bytes : ℕ) (asked : Option HandleCall) (here : OwnerStage) (s : Sess
 
   pub keeps_all : (of : Kind) → kind ≡ of → (act : Act) (pipe : Pipe ℕ (Unit {0})) (result : Slot ℕ (Unit {0})) (slot : Slot (Option (Fault ℕ)) (Unit {0})) (left : ℕ) → is_in s.number.serial (jobs_of (own cut)) ≡ true
       → KeepsAll of act pipe result slot left
-      → Goes (owner_by_parts bytes asked here (Some (now_at pipe result slot left))) cut (event act)
+      → Goes (owner_by_parts bytes client asked here (Some (now_at pipe result slot left))) cut (event act)
   keeps_all of same act pipe result slot left among k =
       let e = event act in
       let more = acts_more act k.own_is.pool k.own_is.nothing in
@@ -205,7 +205,7 @@ module _ (bytes : ℕ) (asked : Option HandleCall) (here : OwnerStage) (s : Sess
 
   -- the law and the tie after an act of the job
   abbrev pub WorksOn : (J : Type 0) → Work J → Type 0
-  WorksOn J work = Goes (owner_by_parts bytes asked here (Some work.session)) cut (event work.act)
+  WorksOn J work = Goes (owner_by_parts bytes client asked here (Some work.session)) cut (event work.act)
 
   module _ (of : Kind) (same : kind ≡ of) (among : is_in s.number.serial (jobs_of (own cut)) ≡ true) where
     -- the tie, by what it does next
@@ -221,7 +221,7 @@ module _ (bytes : ℕ) (asked : Option HandleCall) (here : OwnerStage) (s : Sess
         → JobActs cut s.number.serial of act
         → Tied (now_at (record s.pipe { job_seat = seat }) s.result s.slot s.left) of (act ∷ acts)
         (job_seated_by act (is_job_seated cut)) (pipe_seated_by act (place_of (next_of_owner cut)) (pipe_seat cut)) (slot_seated_by act (place_of (next_of_owner cut)) (slot_seat cut))
-        → Goes (owner_by_parts bytes asked here (Some (now_at (record s.pipe { job_seat = seat }) s.result s.slot s.left))) cut (event act)
+        → Goes (owner_by_parts bytes client asked here (Some (now_at (record s.pipe { job_seat = seat }) s.result s.slot s.left))) cut (event act)
     stays_goes other act seat own_is leaves lawful session =
         keeps_all of same act (record s.pipe { job_seat = seat }) s.result s.slot s.left among (record {
           own_is = own_is;
@@ -238,7 +238,7 @@ module _ (bytes : ℕ) (asked : Option HandleCall) (here : OwnerStage) (s : Sess
         → Tied (now_at pipe s.result s.slot s.left) of (act ∷ acts)
         (job_seated_by act (is_job_seated cut)) (pipe_seated_by act (place_of (next_of_owner cut)) (pipe_seat cut)) (slot_seated_by act (place_of (next_of_owner cut)) (slot_seat cut))
         → s.pipe.is_job_open ≡ true → takes_waker act ≡ is_some s.pipe.owner_seat
-        → Goes (owner_by_parts bytes asked here (Some (now_at pipe s.result s.slot s.left))) cut (event act)
+        → Goes (owner_by_parts bytes client asked here (Some (now_at pipe s.result s.slot s.left))) cut (event act)
     pipe_goes other act pipe own_is leaves lawful session lasts takes =
         keeps_all of same act pipe s.result s.slot s.left among (record {
           own_is = own_is;
@@ -255,7 +255,7 @@ module _ (bytes : ℕ) (asked : Option HandleCall) (here : OwnerStage) (s : Sess
 
     -- it closes its end of the pipe
     closes_goes : is_operating of ≡ false → next_of_job of acts ≡ CloseEnd → s.pipe.is_job_open ≡ true → At s of (bound bytes of) began shut over gone took written acts js ps ss CloseEnd
-        → Goes (owner_by_parts bytes asked here (Some (session_after_job_close s))) cut (event (JobClosed (waker_in (is_some s.pipe.owner_seat))))
+        → Goes (owner_by_parts bytes client asked here (Some (session_after_job_close s))) cut (event (JobClosed (waker_in (is_some s.pipe.owner_seat))))
     closes_goes other next lasts here_now =
         let act = JobClosed (waker_in (is_some s.pipe.owner_seat)) in
         pipe_goes other act (record s.pipe { is_job_open = false; owner_seat = None }) (record { pool = refl; nothing = refl; ends = tt; back = λ here before. refl; faults = λ is any. (refl, refl) }) (refl, refl)
@@ -266,7 +266,7 @@ module _ (bytes : ℕ) (asked : Option HandleCall) (here : OwnerStage) (s : Sess
     finishes_goes : (why : Option (Fault ℕ)) (left : ℕ) → next_of_job of acts ≡ Finish → At s of (bound bytes of) began shut over gone took written acts js ps ss Finish
         → ((waker : HolderWaker) → PlaceBy s.result of (Finished waker ∷ acts) came rs)
         → ((waker : HolderWaker) → Tied (now_at s.pipe s.result (slot_after s.slot.content s.slot.seat why) left) of (Finished waker ∷ acts) js ps false)
-        → Goes (owner_by_parts bytes asked here (Some (now_at s.pipe s.result (slot_after s.slot.content s.slot.seat why) left))) cut (event (Finished (waker_in (finish_wakes why s))))
+        → Goes (owner_by_parts bytes client asked here (Some (now_at s.pipe s.result (slot_after s.slot.content s.slot.seat why) left))) cut (event (Finished (waker_in (finish_wakes why s))))
     finishes_goes why left next here_now place session =
         let empty = (going s.slot.content (has_finished acts) (has_given_up acts) over gone (fault of acts) here_now.result).empty in
         let woke = finish_wakes why s in
@@ -284,7 +284,7 @@ module _ (bytes : ℕ) (asked : Option HandleCall) (here : OwnerStage) (s : Sess
     -- its handle answers
     answers_goes : (answer : Answer) (next : JobAction) → is_answer next answer ≡ true → next_of_job of acts ≡ next → At s of (bound bytes of) began shut over gone took written acts js ps ss next
         → PlaceBy s.result of (Answered answer ∷ acts) came rs → Tied s of (Answered answer ∷ acts) js ps ss
-        → Goes (owner_by_parts bytes asked here (Some s)) cut (event (Answered answer))
+        → Goes (owner_by_parts bytes client asked here (Some s)) cut (event (Answered answer))
     answers_goes answer next fits is here_now place session =
         let result = subst (λ b. ResultAs s.slot.content (has_finished acts) (has_given_up acts) b over gone (fault of acts)) (asking_goes next answer fits) here_now.result in
         let lent = (going s.slot.content (has_finished acts) (has_given_up acts) over gone (fault of acts) result).lent in
@@ -370,7 +370,7 @@ module _ (bytes : ℕ) (asked : Option HandleCall) (here : OwnerStage) (s : Sess
         (λ waker. finishes s Reading (bound bytes Reading) began shut over gone took written acts js ps ss waker p.fault r.fault_is tt now)
 
     -- its reader answers
-    pub answer_goes : (answer : Answer) → is_answer (action_of p) answer ≡ true → Goes (owner_by_parts bytes asked here (Some s)) cut (event (Answered answer))
+    pub answer_goes : (answer : Answer) → is_answer (action_of p) answer ≡ true → Goes (owner_by_parts bytes client asked here (Some s)) cut (event (Answered answer))
     answer_goes answer is =
         let q = asks p acts answer r is in
         let next = next_by acts ∙ ap (λ b. job_wake_first b (next_but_wake Reading acts)) (sym r.waking ∙ q.a.waking) ∙ q.table in
@@ -432,7 +432,7 @@ module _ (bytes : ℕ) (asked : Option HandleCall) (here : OwnerStage) (s : Sess
         (λ waker. finishes s Writing (bound bytes Writing) began shut over gone took written acts js ps ss waker (write_fault_of p.core) r.fault_is tt now)
 
     -- its writer answers
-    pub writer_answer_goes : (answer : Answer) → is_answer (write_action_of p) answer ≡ true → Goes (owner_by_parts bytes asked here (Some s)) cut (event (Answered answer))
+    pub writer_answer_goes : (answer : Answer) → is_answer (write_action_of p) answer ≡ true → Goes (owner_by_parts bytes client asked here (Some s)) cut (event (Answered answer))
     writer_answer_goes answer is =
         let q = of_writer.asks p acts answer r is in
         let next = of_writer.next_by acts ∙ ap (λ b. job_wake_first b (next_but_wake Writing acts)) (sym r.waking ∙ q.a.waking) ∙ q.table in
@@ -487,7 +487,7 @@ module _ (bytes : ℕ) (asked : Option HandleCall) (here : OwnerStage) (s : Sess
         (λ waker. finishes s Streaming (bound bytes Streaming) began shut over gone took written acts js ps ss waker None (sym r.fault_is) tt now)
 
     -- its handle answers
-    pub item_answer_goes : (answer : Answer) → is_answer (item_action_of p) answer ≡ true → Goes (owner_by_parts bytes asked here (Some s)) cut (event (Answered answer))
+    pub item_answer_goes : (answer : Answer) → is_answer (item_action_of p) answer ≡ true → Goes (owner_by_parts bytes client asked here (Some s)) cut (event (Answered answer))
     item_answer_goes answer is =
         let q = of_streamer.asks p acts answer r is in
         let next = of_streamer.next_by acts ∙ ap (λ b. job_wake_first b (next_but_wake Streaming acts)) (sym r.waking ∙ q.a.waking) ∙ q.table in
@@ -508,7 +508,7 @@ module _ (bytes : ℕ) (asked : Option HandleCall) (here : OwnerStage) (s : Sess
         (λ waker. seek_puts s p.goal (bound bytes (Seeking p.goal)) began shut over gone took written acts js ps ss waker p.fault p.place r.fault_is r.place_is now)
 
     -- its handle answers
-    pub seek_answer_goes : (answer : Answer) → is_answer (seek_action_of p) answer ≡ true → Goes (owner_by_parts bytes asked here (Some s)) cut (event (Answered answer))
+    pub seek_answer_goes : (answer : Answer) → is_answer (seek_action_of p) answer ≡ true → Goes (owner_by_parts bytes client asked here (Some s)) cut (event (Answered answer))
     seek_answer_goes answer is =
         let q = of_seeker.asks p acts answer r is in
         let now = tied (Seeking p.goal) seeking among AskSeek q.table in
@@ -561,7 +561,7 @@ module _ (bytes : ℕ) (asked : Option HandleCall) (here : OwnerStage) (s : Sess
         (λ waker. finishes s Operating (bound bytes Operating) began shut over gone took written acts js ps ss waker None (sym r.fault_is) tt now)
 
     -- its operation answers
-    pub operation_answer_goes : (answer : Answer) → is_answer (operation_action_of p) answer ≡ true → Goes (owner_by_parts bytes asked here (Some s)) cut (event (Answered answer))
+    pub operation_answer_goes : (answer : Answer) → is_answer (operation_action_of p) answer ≡ true → Goes (owner_by_parts bytes client asked here (Some s)) cut (event (Answered answer))
     operation_answer_goes answer is =
         let q = of_operator.asks p acts answer r is in
         let now = tied Operating operating among AskResult q.table in
@@ -575,7 +575,7 @@ module _ (bytes : ℕ) (asked : Option HandleCall) (here : OwnerStage) (s : Sess
 
   -- it gives up
   pub give_up_goes : is_in s.number.serial (jobs_of (own cut)) ≡ true → is_over (next_but_wake kind acts) ≡ false → gone ≡ true
-      → Goes (owner_by_parts bytes asked here (Some (session_after_give_up s))) cut (event (GaveUp (waker_in (give_up_wakes s))))
+      → Goes (owner_by_parts bytes client asked here (Some (session_after_give_up s))) cut (event (GaveUp (waker_in (give_up_wakes s))))
   give_up_goes among goes dropped =
       let result = subst (λ b. ResultAs s.slot.content (has_finished acts) (has_given_up acts) b over gone (fault kind acts)) goes t.last.result in
       let empty = (going s.slot.content (has_finished acts) (has_given_up acts) over gone (fault kind acts) result).empty in

@@ -16,12 +16,12 @@ use Rattle.blocking_lanes.proofs.owners.Results.{taken as result_taken, waits as
 use Rattle.blocking_lanes.proofs.owners.States.{is_away, gone_is, lent_at, lent_by, piped_is}
 
 -- an owner by its parts
-abbrev pub owner_by_parts : ℕ → Option HandleCall → OwnerStage → Option Session → Owner
-owner_by_parts bytes asked here last = record { capacity = bytes; asked = asked; stage = here; session = last }
+abbrev pub owner_by_parts : ℕ → ℕ → Option HandleCall → OwnerStage → Option Session → Owner
+owner_by_parts bytes client asked here last = record { capacity = bytes; client = client; asked = asked; stage = here; session = last }
 
 -- how much the pipes of its sessions hold, by their kind
 abbrev pub bound : ℕ → Kind → ℕ
-bound bytes kind = capacity_of (owner_by_parts bytes None (OwnerStage.Rests State.Idle PollEnd.Replied) None) kind
+bound bytes kind = capacity_of (owner_by_parts bytes 0 None (OwnerStage.Rests State.Idle PollEnd.Replied) None) kind
 
 -- An event keeps the law of its owner but for what passed, and leaves the owner tied.
 pub record Goes (new : Owner) (cut : List Event) (e : Event) : Type 0 where
@@ -58,14 +58,14 @@ pub still_called : (q : OwnerMachine ℕ) (note : Option JobNumber) (asked : Opt
 still_called q taken asked = grind arith
 
 -- what its poll does next is what the law says, and fits
-pub lawful : (bytes : ℕ) (asked : Option HandleCall) (p : OwnerMachine ℕ) (cut : List Event) (last : Option Session) (next : OwnerAction ℕ)
-    → (t : OwnerAs (owner_by_parts bytes asked (OwnerStage.Polls p) last) cut) → p.next ≡ next → next_of_owner cut ≡ action_as (item_in last) t.stage.0.call next
-lawful bytes asked p cut last next t is =
+pub lawful : (bytes client : ℕ) (asked : Option HandleCall) (p : OwnerMachine ℕ) (cut : List Event) (last : Option Session) (next : OwnerAction ℕ)
+    → (t : OwnerAs (owner_by_parts bytes client asked (OwnerStage.Polls p) last) cut) → p.next ≡ next → next_of_owner cut ≡ action_as (item_in last) t.stage.0.call next
+lawful bytes client asked p cut last next t is =
     next_with cut ∙ ap (λ n. deliver_first n (owner_next_but_wake cut (own cut))) t.stage.2 ∙ t.stage.0.next_is ∙ ap (action_as (item_in last) t.stage.0.call) is
 
-pub fits_at : (bytes : ℕ) (asked : Option HandleCall) (p : OwnerMachine ℕ) (cut : List Event) (last : Option Session) (next : OwnerAction ℕ)
-    → (t : OwnerAs (owner_by_parts bytes asked (OwnerStage.Polls p) last) cut) → p.next ≡ next → FitsNext t.stage.0.call p next (law.is_at_end (own cut)) (came_back cut)
-fits_at bytes asked p cut last next t is = subst (λ n. FitsNext t.stage.0.call p n (law.is_at_end (own cut)) (came_back cut)) is t.stage.0.fits
+pub fits_at : (bytes client : ℕ) (asked : Option HandleCall) (p : OwnerMachine ℕ) (cut : List Event) (last : Option Session) (next : OwnerAction ℕ)
+    → (t : OwnerAs (owner_by_parts bytes client asked (OwnerStage.Polls p) last) cut) → p.next ≡ next → FitsNext t.stage.0.call p next (law.is_at_end (own cut)) (came_back cut)
+fits_at bytes client asked p cut last next t is = subst (λ n. FitsNext t.stage.0.call p n (law.is_at_end (own cut)) (came_back cut)) is t.stage.0.fits
 
 -- a poll that goes on, first by a note that it took, is where it is in its operations
 operating_so : (q : OwnerMachine ℕ) (note : Option JobNumber) (waits operates begun found : Bool) → IsOperating q.next operates begun found → OperatesBy (goes_on q note) waits operates begun found
@@ -126,7 +126,7 @@ whole_by g false took goes all put sound = (sym put ∙ sym all.0, ended g.faile
     ended : (a b : Bool) → a ≡ false → a || b ≡ true → b ≡ true
     ended a b none e = grind arith
 
-module _ (bytes : ℕ) (asked : Option HandleCall) (p : OwnerMachine ℕ) (s : Session) (h first : ℕ) (growth : Growth) (cut : List Event) where
+module _ (bytes client : ℕ) (asked : Option HandleCall) (p : OwnerMachine ℕ) (s : Session) (h first : ℕ) (growth : Growth) (cut : List Event) where
   -- what the tie of the session is about
   abbrev began : Option SeenSession
   began = seen_last_session (own cut)
@@ -171,10 +171,10 @@ module _ (bytes : ℕ) (asked : Option HandleCall) (p : OwnerMachine ℕ) (s : S
   came = has_found (own cut)
 
   abbrev Old : Type 0
-  Old = OwnerAs (owner_by_parts bytes asked (OwnerStage.Polls p) (Some s)) cut
+  Old = OwnerAs (owner_by_parts bytes client asked (OwnerStage.Polls p) (Some s)) cut
 
   abbrev polling : Owner
-  polling = owner_by_parts bytes asked (OwnerStage.Polls p) (Some s)
+  polling = owner_by_parts bytes client asked (OwnerStage.Polls p) (Some s)
 
   -- the session, where its kind is known
   of_kind : (k : Kind) → kind ≡ k → Old → SessionAs s k (bound bytes k) began shut over gone took written acts js ps ss
@@ -215,9 +215,9 @@ module _ (bytes : ℕ) (asked : Option HandleCall) (p : OwnerMachine ℕ) (s : S
       → StageAs (goes_on q note) new.item (by_owner h act first growth ∷ cut) → IsOperating q.next (is_operation asked) (seen_has_begun (act ∷ own cut)) (has_found (act ∷ own cut))
       → PlaceIn (Some new) (by_owner h act first growth ∷ cut) → LastAs (Some new) (bound bytes) (by_owner h act first growth ∷ cut) → (law.is_at_end (act ∷ own cut) ≡ true → IsAtEnd new)
       → ((number : JobNumber) → note_at (goes_on q note) ≡ Some number → Some new.number ≡ Some number)
-      → Goes (owner_by_parts bytes asked (goes_on m note) (Some new)) cut (by_owner h act first growth)
+      → Goes (owner_by_parts bytes client asked (goes_on m note) (Some new)) cut (by_owner h act first growth)
   on_goes t act note q new same stays next acts_so stage operates place last ended note_is =
-      subst (λ (m : OwnerMachine ℕ). Goes (owner_by_parts bytes asked (goes_on m note) (Some new)) cut (by_owner h act first growth)) (sym same)
+      subst (λ (m : OwnerMachine ℕ). Goes (owner_by_parts bytes client asked (goes_on m note) (Some new)) cut (by_owner h act first growth)) (sym same)
       (record {
         acts = stays.acts_so (subst (λ n. Polls cut n act) (sym next) acts_so);
         ends = stays.ends;
@@ -243,7 +243,7 @@ module _ (bytes : ℕ) (asked : Option HandleCall) (p : OwnerMachine ℕ) (s : S
       → OperatesBy (OwnerStage.Rests p.state end) true (is_operation asked) begun came
       → SessionAs (record s { pipe = pipe; result = result; slot = slot }) kind (bound bytes kind) began shut over gone took written acts js (pipe_seated_by Waits (place_of at) ps) (slot_seated_by Waits (place_of at) ss)
       → PlaceBy result kind acts came (result_seated_by Waits (place_of at) rs) → is_some pipe.owner_seat || (is_some slot.seat || is_some result.seat) ≡ true
-      → Goes (owner_by_parts bytes asked (OwnerStage.Rests p.state end) (Some (record s { pipe = pipe; result = result; slot = slot }))) cut (by_owner h Waits first growth)
+      → Goes (owner_by_parts bytes client asked (OwnerStage.Rests p.state end) (Some (record s { pipe = pipe; result = result; slot = slot }))) cut (by_owner h Waits first growth)
   waits_goes t end pipe result slot next acts_so operates last place sits = record {
     acts = subst (λ n. Polls cut n Waits) (sym next) acts_so;
     ends = tt;
@@ -284,7 +284,7 @@ module _ (bytes : ℕ) (asked : Option HandleCall) (p : OwnerMachine ℕ) (s : S
       let e = by_owner h (OwnerClosed (serial_of note)) first growth in
       let c = t.stage.0.call in
       let q : OwnerMachine ℕ = record p { state = machine.shut p.state; next = OwnerAction.PollSlot; is_waking = is_some note } in
-      let fits = fits_at bytes asked p cut (Some s) OwnerAction.Close t is in
+      let fits = fits_at bytes client asked p cut (Some s) OwnerAction.Close t is in
       let same : owner_after p (OwnerAnswer.Closed (is_some note)) ≡ q = turned p OwnerAction.Close (OwnerAnswer.Closed (is_some note)) t.stage.1 is in
       let polled : PollAs q s.item (seen_call (own cut)) (seen_state (own (e ∷ cut))) law.PollSlot false (came_back cut) = record {
         call = c;
@@ -296,7 +296,7 @@ module _ (bytes : ℕ) (asked : Option HandleCall) (p : OwnerMachine ℕ) (s : S
         fits = (shut_looks c p.state p.is_at_end fits.0 fits.1, fits.1);
       } in
       on_goes t (OwnerClosed (serial_of note)) note q (session_after_close s) same
-      (record { made = t.made; gone = t.gone; asked_is = t.asked; polled = t.polled; holds = t.bytes; acts_so = λ polls. polls; ends = tt; earlier = t.earlier; told = λ waits. cc }) (lawful bytes asked p cut (Some s) OwnerAction.Close t is) (ap OwnerClosed (noted_is s (bound bytes) cut t.last))
+      (record { made = t.made; gone = t.gone; asked_is = t.asked; polled = t.polled; holds = t.bytes; acts_so = λ polls. polls; ends = tt; earlier = t.earlier; told = λ waits. cc }) (lawful bytes client asked p cut (Some s) OwnerAction.Close t is) (ap OwnerClosed (noted_is s (bound bytes) cut t.last))
       (goes_on_so q note s.item (seen_call (own cut)) (seen_state (own (e ∷ cut))) law.PollSlot false (came_back cut) polled refl) (operates_at OwnerAction.Close is t) t.place
       (shuts s kind (bound bytes kind) began shut over gone took written acts js ps ss t.last) (λ is_end. absurd (never is_end)) (noted_so q note js s.number t.last.seats.job)
 
@@ -315,7 +315,7 @@ module _ (bytes : ℕ) (asked : Option HandleCall) (p : OwnerMachine ℕ) (s : S
       → Goes (drain_did met p s polling).owner cut (by_owner h (drain_did met p s polling).act first growth)
   drain_goes most is t (Served found) e =
       let c = t.stage.0.call in
-      let fits = fits_at bytes asked p cut (Some s) (OwnerAction.Drain most) t is in
+      let fits = fits_at bytes client asked p cut (Some s) (OwnerAction.Drain most) t is in
       let lent = lent_at (own cut) Reading true (t.stage.0.at_is ∙ ap state_as fits.2) in
       let seen = by_owner h (Got found.0 (serial_of found.1)) first growth in
       let here = front (max 1 (reach most s)) s.pipe.items s.pipe.is_job_open s.pipe.job_seat found e in
@@ -329,7 +329,7 @@ module _ (bytes : ℕ) (asked : Option HandleCall) (p : OwnerMachine ℕ) (s : S
       let polled = polls_on t q s.item false (came_back cut) refl refl (some_fits c q (length found.0) false (came_back cut) any) in
       let last = takes s (bound bytes Reading) began shut over gone took written acts js ps ss (max 1 (reach most s)) found e (of_kind Reading lent.0 t) in
       on_goes t (Got found.0 (serial_of found.1)) found.1 q (session_after_drain (Served found) s) same
-      (record { made = t.made; gone = t.gone; asked_is = t.asked; polled = t.polled; holds = t.bytes; acts_so = λ polls. polls; ends = tt; earlier = t.earlier; told = λ waits. cc }) (lawful bytes asked p cut (Some s) (OwnerAction.Drain most) t is) (ap drain_act (sym e) ∙ found_so most wanted t)
+      (record { made = t.made; gone = t.gone; asked_is = t.asked; polled = t.polled; holds = t.bytes; acts_so = λ polls. polls; ends = tt; earlier = t.earlier; told = λ waits. cc }) (lawful bytes client asked p cut (Some s) (OwnerAction.Drain most) t is) (ap drain_act (sym e) ∙ found_so most wanted t)
       (goes_on_so q found.1 s.item (seen_call (own cut)) (seen_state (own cut)) (law.Say (Told.Count (length found.0))) false (came_back cut) polled refl) tt t.place
       (subst (λ k. SessionAs (session_after_drain (Served found) s) k (bound bytes k) began shut over gone (took ++ found.0) written acts false ps ss) (sym lent.0) last) (λ is_end. absurd (never is_end)) (noted_so q found.1 js s.number (here.1 ∙ t.last.seats.job))
     where
@@ -337,21 +337,21 @@ module _ (bytes : ℕ) (asked : Option HandleCall) (p : OwnerMachine ℕ) (s : S
       some_in [] none = absurd (none refl)
       some_in (x ∷ xs) none = omega arith
   drain_goes most is t Waiting e =
-      let fits = fits_at bytes asked p cut (Some s) (OwnerAction.Drain most) t is in
+      let fits = fits_at bytes client asked p cut (Some s) (OwnerAction.Drain most) t is in
       let lent = lent_at (own cut) Reading true (t.stage.0.at_is ∙ ap state_as fits.2) in
-      waits_goes t PollEnd.Waits (record s.pipe { owner_seat = Some tt }) s.result s.slot (lawful bytes asked p cut (Some s) (OwnerAction.Drain most) t is) (ap drain_act (sym e) ∙ found_so most fits.1 t)
+      waits_goes t PollEnd.Waits (record s.pipe { owner_seat = Some tt }) s.result s.slot (lawful bytes client asked p cut (Some s) (OwnerAction.Drain most) t is) (ap drain_act (sym e) ∙ found_so most fits.1 t)
       (refl, operates_at (OwnerAction.Drain most) is t)
       (subst (λ k. SessionAs (session_after_drain Waiting s) k (bound bytes k) began shut over gone took written acts js true ss) (sym lent.0)
       (waits s (bound bytes Reading) began shut over gone took written acts js ps ss (max 1 (reach most s)) e (of_kind Reading lent.0 t))) t.place refl
   drain_goes most is t Closed e =
-      let fits = fits_at bytes asked p cut (Some s) (OwnerAction.Drain most) t is in
+      let fits = fits_at bytes client asked p cut (Some s) (OwnerAction.Drain most) t is in
       let lent = lent_at (own cut) Reading true (t.stage.0.at_is ∙ ap state_as fits.2) in
       let seen = by_owner h GotEnd first growth in
       let q : OwnerMachine ℕ = record p { next = OwnerAction.PollSlot; is_at_end = true } in
       let same : owner_after p OwnerAnswer.Ended ≡ q = turned p (OwnerAction.Drain most) OwnerAnswer.Ended t.stage.1 is in
       let closed = at_end (max 1 (reach most s)) s.pipe.items s.pipe.is_job_open s.pipe.job_seat e in
       on_goes t GotEnd None q s same
-      (record { made = t.made; gone = t.gone; asked_is = t.asked; polled = t.polled; holds = t.bytes; acts_so = λ polls. polls; ends = tt; earlier = t.earlier; told = λ waits. cc }) (lawful bytes asked p cut (Some s) (OwnerAction.Drain most) t is) (ap drain_act (sym e) ∙ found_so most fits.1 t)
+      (record { made = t.made; gone = t.gone; asked_is = t.asked; polled = t.polled; holds = t.bytes; acts_so = λ polls. polls; ends = tt; earlier = t.earlier; told = λ waits. cc }) (lawful bytes client asked p cut (Some s) (OwnerAction.Drain most) t is) (ap drain_act (sym e) ∙ found_so most fits.1 t)
       (polls_on t q s.item true (came_back cut) refl refl ((subst (λ c. LooksFrom c p.state true) (sym fits.0) (subst (λ st. LooksFrom (HandleCall.Read most) st true) (sym fits.2) tt), refl)), t.stage.1, refl) (operates_at (OwnerAction.Drain most) is t) t.place
       t.last (λ is_end. (closed.0, closed.1, sym (open_is s (bound bytes) cut t.last) ∙ lent.1)) (λ number is. absurd (nothing is))
 
@@ -368,7 +368,7 @@ module _ (bytes : ℕ) (asked : Option HandleCall) (p : OwnerMachine ℕ) (s : S
   receive_goes : p.next ≡ OwnerAction.Receive → Old → (met : Met (ℕ × Option JobNumber)) → received s ≡ met
       → Goes (receive_did met p s polling).owner cut (by_owner h (receive_did met p s polling).act first growth)
   receive_goes is t (Served found) e =
-      let fits = fits_at bytes asked p cut (Some s) OwnerAction.Receive t is in
+      let fits = fits_at bytes client asked p cut (Some s) OwnerAction.Receive t is in
       let lent = lent_at (own cut) Streaming true (t.stage.0.at_is ∙ ap state_as fits.1) in
       let seen = by_owner h (GotItem found.0 (serial_of found.1)) first growth in
       let here = first_item s.pipe.items s.pipe.is_job_open s.pipe.job_seat found e in
@@ -377,25 +377,25 @@ module _ (bytes : ℕ) (asked : Option HandleCall) (p : OwnerMachine ℕ) (s : S
       let polled = polls_on t q found.0 false (came_back cut) refl refl (subst (λ c. FitsNext c q (OwnerAction.Reply Reply.Item) false (came_back cut)) (sym fits.0) (refl, tt, tt)) in
       let last = receives s (bound bytes Streaming) began shut over gone took written acts js ps ss found e (of_kind Streaming lent.0 t) in
       on_goes t (GotItem found.0 (serial_of found.1)) found.1 q (session_after_receive (Served found) s) same
-      (record { made = t.made; gone = t.gone; asked_is = t.asked; polled = t.polled; holds = t.bytes; acts_so = λ polls. polls; ends = tt; earlier = t.earlier; told = λ waits. cc }) (lawful bytes asked p cut (Some s) OwnerAction.Receive t is) (ap receive_act (sym e) ∙ item_so t)
+      (record { made = t.made; gone = t.gone; asked_is = t.asked; polled = t.polled; holds = t.bytes; acts_so = λ polls. polls; ends = tt; earlier = t.earlier; told = λ waits. cc }) (lawful bytes client asked p cut (Some s) OwnerAction.Receive t is) (ap receive_act (sym e) ∙ item_so t)
       (goes_on_so q found.1 found.0 (seen_call (own cut)) (seen_state (own cut)) (law.Say (Told.OneItem found.0)) false (came_back cut) polled refl) tt t.place
       (subst (λ k. SessionAs (session_after_receive (Served found) s) k (bound bytes k) began shut over gone (took ++ found.0 ∷ []) written acts false ps ss) (sym lent.0) last) (λ is_end. absurd (never is_end)) (noted_so q found.1 js s.number (here.1 ∙ t.last.seats.job))
   receive_goes is t Waiting e =
-      let fits = fits_at bytes asked p cut (Some s) OwnerAction.Receive t is in
+      let fits = fits_at bytes client asked p cut (Some s) OwnerAction.Receive t is in
       let lent = lent_at (own cut) Streaming true (t.stage.0.at_is ∙ ap state_as fits.1) in
-      waits_goes t PollEnd.Waits (record s.pipe { owner_seat = Some tt }) s.result s.slot (lawful bytes asked p cut (Some s) OwnerAction.Receive t is) (ap receive_act (sym e) ∙ item_so t)
+      waits_goes t PollEnd.Waits (record s.pipe { owner_seat = Some tt }) s.result s.slot (lawful bytes client asked p cut (Some s) OwnerAction.Receive t is) (ap receive_act (sym e) ∙ item_so t)
       (refl, operates_at OwnerAction.Receive is t)
       (subst (λ k. SessionAs (session_after_receive Waiting s) k (bound bytes k) began shut over gone took written acts js true ss) (sym lent.0)
       (waits_for_item s (bound bytes Streaming) began shut over gone took written acts js ps ss e (of_kind Streaming lent.0 t))) t.place refl
   receive_goes is t Closed e =
-      let fits = fits_at bytes asked p cut (Some s) OwnerAction.Receive t is in
+      let fits = fits_at bytes client asked p cut (Some s) OwnerAction.Receive t is in
       let lent = lent_at (own cut) Streaming true (t.stage.0.at_is ∙ ap state_as fits.1) in
       let seen = by_owner h GotEnd first growth in
       let q : OwnerMachine ℕ = record p { next = OwnerAction.PollSlot; is_at_end = true } in
       let same : owner_after p OwnerAnswer.Ended ≡ q = turned p OwnerAction.Receive OwnerAnswer.Ended t.stage.1 is in
       let closed = no_more_items s.pipe.items s.pipe.is_job_open s.pipe.job_seat e in
       on_goes t GotEnd None q s same
-      (record { made = t.made; gone = t.gone; asked_is = t.asked; polled = t.polled; holds = t.bytes; acts_so = λ polls. polls; ends = tt; earlier = t.earlier; told = λ waits. cc }) (lawful bytes asked p cut (Some s) OwnerAction.Receive t is) (ap receive_act (sym e) ∙ item_so t)
+      (record { made = t.made; gone = t.gone; asked_is = t.asked; polled = t.polled; holds = t.bytes; acts_so = λ polls. polls; ends = tt; earlier = t.earlier; told = λ waits. cc }) (lawful bytes client asked p cut (Some s) OwnerAction.Receive t is) (ap receive_act (sym e) ∙ item_so t)
       (polls_on t q s.item true (came_back cut) refl refl ((subst (λ c. LooksFrom c p.state true) (sym fits.0) (subst (λ st. LooksFrom HandleCall.Next st true) (sym fits.1) tt), refl)), t.stage.1, refl) (operates_at OwnerAction.Receive is t) t.place
       t.last (λ is_end. (closed.0, closed.1, sym (open_is s (bound bytes) cut t.last) ∙ lent.1)) (λ number is. absurd (nothing is))
 
@@ -421,7 +421,7 @@ module _ (bytes : ℕ) (asked : Option HandleCall) (p : OwnerMachine ℕ) (s : S
 
   fills_so : (offered : List ℕ) (most : ℕ) → asked ≡ Some (HandleCall.Write offered) → p.next ≡ OwnerAction.Fill most → (t : Old) → Writes offered t
   fills_so offered most asks is t =
-      let fits = fits_at bytes asked p cut (Some s) (OwnerAction.Fill most) t is in
+      let fits = fits_at bytes client asked p cut (Some s) (OwnerAction.Fill most) t is in
       let called : Some t.stage.0.call ≡ Some (HandleCall.Write offered) = sym t.stage.0.asked_is ∙ t.asked ∙ asks in
       let call : t.stage.0.call ≡ HandleCall.Write offered = ap (value_of t.stage.0.call) called in
       let same : fits.0 ≡ offered = ap (λ c. data_of (Some c)) (sym fits.1 ∙ call) in
@@ -433,7 +433,7 @@ module _ (bytes : ℕ) (asked : Option HandleCall) (p : OwnerMachine ℕ) (s : S
         at = fits.4;
         kind_is = lent.0;
         open_is = shuts_not shut lent.1;
-        next_is = lawful bytes asked p cut (Some s) (OwnerAction.Fill most) t is ∙ ap (λ c. law.Fill (data_of (Some c))) call;
+        next_is = lawful bytes client asked p cut (Some s) (OwnerAction.Fill most) t is ∙ ap (λ c. law.Fill (data_of (Some c))) call;
         most_is = is ∙ ap OwnerAction.Fill many;
       }
     where
@@ -495,11 +495,11 @@ module _ (bytes : ℕ) (asked : Option HandleCall) (p : OwnerMachine ℕ) (s : S
 
   -- it finds nothing yet, and is seated
   slot_waits : p.next ≡ OwnerAction.PollSlot → Old → s.slot.content ≡ Empty
-      → Goes (owner_by_parts bytes asked (OwnerStage.Rests p.state PollEnd.Waits) (Some (session_after_look Empty s))) cut (by_owner h Waits first growth)
+      → Goes (owner_by_parts bytes client asked (OwnerStage.Rests p.state PollEnd.Waits) (Some (session_after_look Empty s))) cut (by_owner h Waits first growth)
   slot_waits is t empty =
       let c = t.stage.0.call in
-      let fits = fits_at bytes asked p cut (Some s) OwnerAction.PollSlot t is in
-      let at_slot = lawful bytes asked p cut (Some s) OwnerAction.PollSlot t is in
+      let fits = fits_at bytes client asked p cut (Some s) OwnerAction.PollSlot t is in
+      let at_slot = lawful bytes client asked p cut (Some s) OwnerAction.PollSlot t is in
       let slot = subst (λ c. SlotAs c (has_finished acts) (has_given_up acts) over (fault kind acts)) empty t.last.result.slot in
       let at = lent_by (own cut) p.state (looks_away c p.state p.is_at_end fits.0) t.stage.0.at_is in
       let going_on = lent_state c p.state p.is_at_end fits.0 (seen_session (own cut)) shut at in
@@ -694,10 +694,10 @@ module _ (bytes : ℕ) (asked : Option HandleCall) (p : OwnerMachine ℕ) (s : S
       → law.after_back t.stage.0.call why p.is_at_end kind (number acts) ≡ action_as s.item t.stage.0.call next
       → FitsNext t.stage.0.call (record p { state = State.Idle; next = next }) next false (Some (by_owner h Back first growth ∷ cut))
       → IsOperating next (is_operation asked) begun came
-      → Goes (owner_by_parts bytes asked (OwnerStage.Polls (owner_after p answer)) (Some (session_after_look (Full why) s))) cut (by_owner h Back first growth)
+      → Goes (owner_by_parts bytes client asked (OwnerStage.Polls (owner_after p answer)) (Some (session_after_look (Full why) s))) cut (by_owner h Back first growth)
   returned is t why full answer next same follows fit goes =
       let c = t.stage.0.call in
-      let fits = fits_at bytes asked p cut (Some s) OwnerAction.PollSlot t is in
+      let fits = fits_at bytes client asked p cut (Some s) OwnerAction.PollSlot t is in
       let e = by_owner h Back first growth in
       let slot = subst (λ c. SlotAs c (has_finished acts) (has_given_up acts) over (fault kind acts)) full t.last.result.slot in
       let q : OwnerMachine ℕ = record p { state = State.Idle; next = next } in
@@ -711,7 +711,7 @@ module _ (bytes : ℕ) (asked : Option HandleCall) (p : OwnerMachine ℕ) (s : S
       ∙ ap (λ b. once_back (Some c) why b kind last_number) (sym fits.1) in
       let there = looks_away c p.state p.is_at_end fits.0 in
       on_goes t Back None q (session_after_look (Full why) s) same
-      (record { made = t.made; gone = t.gone; asked_is = t.asked; polled = t.polled; holds = t.bytes; acts_so = λ polls. polls; ends = tt; earlier = t.earlier; told = λ waits. cc }) (lawful bytes asked p cut (Some s) OwnerAction.PollSlot t is) (ap poll_slot (sym finished)) (
+      (record { made = t.made; gone = t.gone; asked_is = t.asked; polled = t.polled; holds = t.bytes; acts_so = λ polls. polls; ends = tt; earlier = t.earlier; told = λ waits. cc }) (lawful bytes client asked p cut (Some s) OwnerAction.PollSlot t is) (ap poll_slot (sym finished)) (
         record {
           call = c;
           asked_is = t.stage.0.asked_is;
@@ -767,11 +767,11 @@ module _ (bytes : ℕ) (asked : Option HandleCall) (p : OwnerMachine ℕ) (s : S
       by false = idle_operates c operates before
 
   back_goes : p.next ≡ OwnerAction.PollSlot → Old → (why : Option (Fault ℕ)) → s.slot.content ≡ Full why → IsNoSeek kind why
-      → Goes (owner_by_parts bytes asked (OwnerStage.Polls (owner_after p (OwnerAnswer.Back why))) (Some (session_after_look (Full why) s))) cut (by_owner h Back first growth)
+      → Goes (owner_by_parts bytes client asked (OwnerStage.Polls (owner_after p (OwnerAnswer.Back why))) (Some (session_after_look (Full why) s))) cut (by_owner h Back first growth)
   back_goes is t why full kept =
       let c = t.stage.0.call in
       let k = t.stage.0.begun in
-      let fits = fits_at bytes asked p cut (Some s) OwnerAction.PollSlot t is in
+      let fits = fits_at bytes client asked p cut (Some s) OwnerAction.PollSlot t is in
       let slot = subst (λ c. SlotAs c (has_finished acts) (has_given_up acts) over (fault kind acts)) full t.last.result.slot in
       let q : OwnerMachine ℕ = record p { state = State.Idle; next = machine.after_back (poll_call_of k c) p.is_at_end why } in
       let same : owner_after p (OwnerAnswer.Back why) ≡ q =
@@ -787,11 +787,11 @@ module _ (bytes : ℕ) (asked : Option HandleCall) (p : OwnerMachine ℕ) (s : S
 
   -- the handle is back from a seek that went well
   sought_goes : p.next ≡ OwnerAction.PollSlot → Old → (goal : Position) (end : OwnerEnd) → p.state ≡ State.Lent (SessionKind.Seeking goal) end → s.slot.content ≡ Full None
-      → Goes (owner_by_parts bytes asked (OwnerStage.Polls (owner_after p (OwnerAnswer.Sought s.left))) (Some (session_after_look (Full None) s))) cut (by_owner h Back first growth)
+      → Goes (owner_by_parts bytes client asked (OwnerStage.Polls (owner_after p (OwnerAnswer.Sought s.left))) (Some (session_after_look (Full None) s))) cut (by_owner h Back first growth)
   sought_goes is t goal end from full =
       let c = t.stage.0.call in
       let k = t.stage.0.begun in
-      let fits = fits_at bytes asked p cut (Some s) OwnerAction.PollSlot t is in
+      let fits = fits_at bytes client asked p cut (Some s) OwnerAction.PollSlot t is in
       let slot = subst (λ c. SlotAs c (has_finished acts) (has_given_up acts) over (fault kind acts)) full t.last.result.slot in
       let of : kind ≡ Seeking goal = (lent_at (own cut) (Seeking goal) (is_end_open end) (t.stage.0.at_is ∙ ap state_as from)).0 in
       let place = (of_kind (Seeking goal) of t).flow.place slot.0 in
@@ -824,14 +824,14 @@ module _ (bytes : ℕ) (asked : Option HandleCall) (p : OwnerMachine ℕ) (s : S
 
   -- from where the handle is lent, it is either
   either_goes : p.next ≡ OwnerAction.PollSlot → Old → (st : State) (why : Option (Fault ℕ)) → p.state ≡ st → s.slot.content ≡ Full why
-      → Goes (owner_by_parts bytes asked (OwnerStage.Polls (owner_after p (back_answer st why s.left))) (Some (session_after_look (Full why) s))) cut (by_owner h Back first growth)
+      → Goes (owner_by_parts bytes client asked (OwnerStage.Polls (owner_after p (back_answer st why s.left))) (Some (session_after_look (Full why) s))) cut (by_owner h Back first growth)
   either_goes is t (State.Lent (SessionKind.Seeking goal) end) None from full = sought_goes is t goal end from full
   either_goes is t (State.Lent (SessionKind.Seeking goal) end) (Some why) from full = back_goes is t (Some why) full (some_why kind why)
   either_goes is t (State.Lent SessionKind.Reading end) why from full = back_goes is t why full (other_kind t SessionKind.Reading end why from tt)
   either_goes is t (State.Lent SessionKind.Writing end) why from full = back_goes is t why full (other_kind t SessionKind.Writing end why from tt)
   either_goes is t (State.Lent SessionKind.Streaming end) why from full = back_goes is t why full (other_kind t SessionKind.Streaming end why from tt)
   either_goes is t (State.Lent SessionKind.Operating end) why from full = back_goes is t why full (other_kind t SessionKind.Operating end why from tt)
-  either_goes is t _ why from full = absurd (subst (λ st. LooksFrom t.stage.0.call st p.is_at_end) from (fits_at bytes asked p cut (Some s) OwnerAction.PollSlot t is).0)
+  either_goes is t _ why from full = absurd (subst (λ st. LooksFrom t.stage.0.call st p.is_at_end) from (fits_at bytes client asked p cut (Some s) OwnerAction.PollSlot t is).0)
 
   look_goes : p.next ≡ OwnerAction.PollSlot → Old → (content : Content (Option (Fault ℕ))) → s.slot.content ≡ content → (done : Did)
       → look_did (looked_as content) p (session_after_look content s) polling ≡ Some done → Goes done.owner cut (by_owner h done.act first growth)
@@ -857,7 +857,7 @@ module _ (bytes : ℕ) (asked : Option HandleCall) (p : OwnerMachine ℕ) (s : S
 
   operates_so : p.next ≡ OwnerAction.PollResult → (t : Old) → Operates t
   operates_so is t =
-      let fits = fits_at bytes asked p cut (Some s) OwnerAction.PollResult t is in
+      let fits = fits_at bytes client asked p cut (Some s) OwnerAction.PollResult t is in
       let begins = operates_at OwnerAction.PollResult is t in
       let lent = lent_at (own cut) Operating true (t.stage.0.at_is ∙ ap state_as fits.1) in
       record {
@@ -867,7 +867,7 @@ module _ (bytes : ℕ) (asked : Option HandleCall) (p : OwnerMachine ℕ) (s : S
         kind_is = lent.0;
         has_begun = begins.0;
         none_came = begins.1;
-        next_is = lawful bytes asked p cut (Some s) OwnerAction.PollResult t is;
+        next_is = lawful bytes client asked p cut (Some s) OwnerAction.PollResult t is;
         tied = of_kind Operating lent.0 t;
       }
 
@@ -884,7 +884,7 @@ module _ (bytes : ℕ) (asked : Option HandleCall) (p : OwnerMachine ℕ) (s : S
       (kept_with s (bound bytes Operating) began shut over gone took written acts js ps ss kept result o.tied)
 
   result_found : p.next ≡ OwnerAction.PollResult → (t : Old) → Operates t → (n : ℕ) → s.result.content ≡ Full n
-      → Goes (owner_by_parts bytes asked (OwnerStage.Polls (owner_after p OwnerAnswer.Resulted)) (Some (session_after_find (Full n) s))) cut (by_owner h (ResultGot n) first growth)
+      → Goes (owner_by_parts bytes client asked (OwnerStage.Polls (owner_after p OwnerAnswer.Resulted)) (Some (session_after_find (Full n) s))) cut (by_owner h (ResultGot n) first growth)
   result_found is t o n full =
       let holds = subst (λ c. HoldsResult c (has_result acts) came (number acts)) full t.place.content in
       let job = its_job s (bound bytes) cut t.last in
@@ -896,7 +896,7 @@ module _ (bytes : ℕ) (asked : Option HandleCall) (p : OwnerMachine ℕ) (s : S
       (tied_with t o n (record s.result { content = Empty })) (λ is_end. absurd (cc)) (λ number is. absurd (cc))
 
   result_awaited : p.next ≡ OwnerAction.PollResult → (t : Old) → Operates t → s.result.content ≡ Empty
-      → Goes (owner_by_parts bytes asked (OwnerStage.Rests p.state PollEnd.WaitsForResult) (Some (session_after_find Empty s))) cut (by_owner h Waits first growth)
+      → Goes (owner_by_parts bytes client asked (OwnerStage.Rests p.state PollEnd.WaitsForResult) (Some (session_after_find Empty s))) cut (by_owner h Waits first growth)
   result_awaited is t o empty =
       let holds = subst (λ c. HoldsResult c (has_result acts) came (number acts)) empty t.place.content in
       let none : has_result acts ≡ false = holds ∙ o.none_came in
@@ -951,21 +951,21 @@ after_reply x HandleCall.IntoInner Reply.Done Told.Okay closed last shut st same
 after_reply x c _ Told.Okay closed last shut st same away e = absurd (cc)
 after_reply x c r _ closed last shut st same away e = e
 
-reply_goes : (bytes : ℕ) (asked : Option HandleCall) (p : OwnerMachine ℕ) (last : Option Session) (h first : ℕ) (growth : Growth) (cut : List Event) (r : Reply ℕ) (said : Told)
-    → p.next ≡ OwnerAction.Reply r → reply_as (item_in last) r ≡ Some said → OwnerAs (owner_by_parts bytes asked (OwnerStage.Polls p) last) cut
-    → Goes (owner_by_parts bytes asked (stage_after_reply (seen_is_into_inner asked) p.state) last) cut (by_owner h (Replied said) first growth)
-reply_goes bytes asked p last h first growth cut r said is same t = at (seen_is_into_inner asked) refl
+reply_goes : (bytes client : ℕ) (asked : Option HandleCall) (p : OwnerMachine ℕ) (last : Option Session) (h first : ℕ) (growth : Growth) (cut : List Event) (r : Reply ℕ) (said : Told)
+    → p.next ≡ OwnerAction.Reply r → reply_as (item_in last) r ≡ Some said → OwnerAs (owner_by_parts bytes client asked (OwnerStage.Polls p) last) cut
+    → Goes (owner_by_parts bytes client asked (stage_after_reply (seen_is_into_inner asked) p.state) last) cut (by_owner h (Replied said) first growth)
+reply_goes bytes client asked p last h first growth cut r said is same t = at (seen_is_into_inner asked) refl
   where
     fits : FitsNext t.stage.0.call p (OwnerAction.Reply r) (law.is_at_end (own cut)) (came_back cut)
-    fits = fits_at bytes asked p cut last (OwnerAction.Reply r) t is
+    fits = fits_at bytes client asked p cut last (OwnerAction.Reply r) t is
 
     -- where it is after that has no poll under way and no note, and is no more if the handle was asked for for good
     after : (here : OwnerStage) → called_at here asked ≡ None → note_at here ≡ None → is_gone here ≡ false → is_no_more here ≡ seen_is_into_inner asked
         → StageBy here (item_in last) (seen_call (own cut)) (seen_state (Replied said ∷ own cut)) law.Rest false (came_back cut) None
         → OperatesBy here false (is_operation asked) (seen_has_begun (own cut)) (has_found (own cut))
-        → Goes (owner_by_parts bytes asked here last) cut (by_owner h (Replied said) first growth)
+        → Goes (owner_by_parts bytes client asked here last) cut (by_owner h (Replied said) first growth)
     after here rests awake there over so operates = record {
-      acts = subst (λ n. Polls cut n (Replied said)) (sym (lawful bytes asked p cut last (OwnerAction.Reply r) t is ∙ ap say same)) refl;
+      acts = subst (λ n. Polls cut n (Replied said)) (sym (lawful bytes client asked p cut last (OwnerAction.Reply r) t is ∙ ap say same)) refl;
       ends = subst (λ c. IsTrueEnd c said (came_back cut)) (sym t.stage.0.asked_is) (end_is (item_in last) t.stage.0.call r (came_back cut) said same fits.1);
       tie = record {
         made = t.made;
@@ -991,7 +991,7 @@ reply_goes bytes asked p last h first growth cut r said is same t = at (seen_is_
         or_none : (a b : Bool) → b ≡ false → (a || b) ≡ a
         or_none a b none = grind arith
 
-    at : (b : Bool) → seen_is_into_inner asked ≡ b → Goes (owner_by_parts bytes asked (stage_after_reply b p.state) last) cut (by_owner h (Replied said) first growth)
+    at : (b : Bool) → seen_is_into_inner asked ≡ b → Goes (owner_by_parts bytes client asked (stage_after_reply b p.state) last) cut (by_owner h (Replied said) first growth)
     at true inner = after OwnerStage.TakenBack refl refl refl (sym inner) (refl, refl) tt
     at false not_inner = after (OwnerStage.Rests p.state PollEnd.Replied) refl refl refl (sym not_inner) (
       ap (λ c. seen_state_by (seen_ends_close said c || seen_is_closed (own cut)) (seen_session (own cut)) (seen_is_shut (own cut))) t.stage.0.asked_is
@@ -1001,16 +1001,16 @@ reply_goes bytes asked p last h first growth cut r said is same t = at (seen_is_
     ) refl
 
 -- it drops the handle: of a close all is done
-drops_goes : (bytes : ℕ) (asked : Option HandleCall) (p : OwnerMachine ℕ) (last : Option Session) (h first : ℕ) (growth : Growth) (cut : List Event) → p.next ≡ OwnerAction.DropHandle
-    → OwnerAs (owner_by_parts bytes asked (OwnerStage.Polls p) last) cut
-    → Goes (drop_did p (owner_by_parts bytes asked (OwnerStage.Polls p) last)).owner cut (by_owner h (Replied Told.Okay) first growth)
-drops_goes bytes asked p last h first growth cut is t =
-    let fits = fits_at bytes asked p cut last OwnerAction.DropHandle t is in
+drops_goes : (bytes client : ℕ) (asked : Option HandleCall) (p : OwnerMachine ℕ) (last : Option Session) (h first : ℕ) (growth : Growth) (cut : List Event) → p.next ≡ OwnerAction.DropHandle
+    → OwnerAs (owner_by_parts bytes client asked (OwnerStage.Polls p) last) cut
+    → Goes (drop_did p (owner_by_parts bytes client asked (OwnerStage.Polls p) last)).owner cut (by_owner h (Replied Told.Okay) first growth)
+drops_goes bytes client asked p last h first growth cut is t =
+    let fits = fits_at bytes client asked p cut last OwnerAction.DropHandle t is in
     let called : seen_call (own cut) ≡ Some HandleCall.Close = t.stage.0.asked_is ∙ ap Some fits.0 in
     let same : owner_after p OwnerAnswer.Dropped ≡ record p { state = State.Closed; next = OwnerAction.Reply Reply.Done } = turned p OwnerAction.DropHandle OwnerAnswer.Dropped t.stage.1 is in
-    subst (λ (m : OwnerMachine ℕ). Goes (owner_by_parts bytes asked (OwnerStage.Rests m.state PollEnd.Replied) last) cut (by_owner h (Replied Told.Okay) first growth)) (sym same)
+    subst (λ (m : OwnerMachine ℕ). Goes (owner_by_parts bytes client asked (OwnerStage.Rests m.state PollEnd.Replied) last) cut (by_owner h (Replied Told.Okay) first growth)) (sym same)
     (record {
-      acts = subst (λ n. Polls cut n (Replied Told.Okay)) (sym (lawful bytes asked p cut last OwnerAction.DropHandle t is)) refl;
+      acts = subst (λ n. Polls cut n (Replied Told.Okay)) (sym (lawful bytes client asked p cut last OwnerAction.DropHandle t is)) refl;
       ends = subst (λ c. IsTrueEnd c Told.Okay (came_back cut)) (sym called) fits.2;
       tie = record {
         made = t.made;
@@ -1036,50 +1036,50 @@ drops_goes bytes asked p last h first growth cut is t =
 -- ---- what its poll does next
 
 -- where it fills, it was asked to write something, and has a session
-own_fills : (bytes : ℕ) (asked : Option HandleCall) (p : OwnerMachine ℕ) (h first : ℕ) (growth : Growth) (cut : List Event) (done : Did) (most : ℕ) (last : Option Session) → p.next ≡ OwnerAction.Fill most
-    → OwnerAs (owner_by_parts bytes asked (OwnerStage.Polls p) last) cut → fill_did_in p asked last (owner_by_parts bytes asked (OwnerStage.Polls p) last) ≡ Some done
+own_fills : (bytes client : ℕ) (asked : Option HandleCall) (p : OwnerMachine ℕ) (h first : ℕ) (growth : Growth) (cut : List Event) (done : Did) (most : ℕ) (last : Option Session) → p.next ≡ OwnerAction.Fill most
+    → OwnerAs (owner_by_parts bytes client asked (OwnerStage.Polls p) last) cut → fill_did_in p asked last (owner_by_parts bytes client asked (OwnerStage.Polls p) last) ≡ Some done
     → Goes done.owner cut (by_owner h done.act first growth)
-own_fills bytes (Some (HandleCall.Write (byte ∷ more))) p h first growth cut done most (Some s) is t does =
+own_fills bytes client (Some (HandleCall.Write (byte ∷ more))) p h first growth cut done most (Some s) is t does =
     let asks = Some (HandleCall.Write (byte ∷ more)) in
     subst (λ (d : Did). Goes d.owner cut (by_owner h d.act first growth)) (ap (value_of done) (through_some OfBytes s.goods _ done does).1)
-    (fill_goes bytes asks p s h first growth cut (byte ∷ more) t (fills_so bytes asks p s h first growth cut (byte ∷ more) most refl is t) (filled (length (byte ∷ more)) s) refl)
-own_fills bytes (Some (HandleCall.Write (byte ∷ more))) p h first growth cut done most None is t does = absurd (nothing does)
-own_fills bytes (Some (HandleCall.Write [])) p h first growth cut done most last is t does = absurd (nothing does)
-own_fills bytes _ p h first growth cut done most last is t does = absurd (nothing does)
+    (fill_goes bytes client asks p s h first growth cut (byte ∷ more) t (fills_so bytes client asks p s h first growth cut (byte ∷ more) most refl is t) (filled (length (byte ∷ more)) s) refl)
+own_fills bytes client (Some (HandleCall.Write (byte ∷ more))) p h first growth cut done most None is t does = absurd (nothing does)
+own_fills bytes client (Some (HandleCall.Write [])) p h first growth cut done most last is t does = absurd (nothing does)
+own_fills bytes client _ p h first growth cut done most last is t does = absurd (nothing does)
 
-own_by : (bytes : ℕ) (asked : Option HandleCall) (p : OwnerMachine ℕ) (h first : ℕ) (growth : Growth) (cut : List Event) (done : Did) (next : OwnerAction ℕ) (last : Option Session) → p.next ≡ next
-    → OwnerAs (owner_by_parts bytes asked (OwnerStage.Polls p) last) cut → did_in next p last (owner_by_parts bytes asked (OwnerStage.Polls p) last) ≡ Some done
+own_by : (bytes client : ℕ) (asked : Option HandleCall) (p : OwnerMachine ℕ) (h first : ℕ) (growth : Growth) (cut : List Event) (done : Did) (next : OwnerAction ℕ) (last : Option Session) → p.next ≡ next
+    → OwnerAs (owner_by_parts bytes client asked (OwnerStage.Polls p) last) cut → did_in next p last (owner_by_parts bytes client asked (OwnerStage.Polls p) last) ≡ Some done
     → Goes done.owner cut (by_owner h done.act first growth)
-own_by bytes asked p h first growth cut done (OwnerAction.Reply r) last is t does = replies (reply_as (item_in last) r) refl does
+own_by bytes client asked p h first growth cut done (OwnerAction.Reply r) last is t does = replies (reply_as (item_in last) r) refl does
   where
-    replies : (told : Option Told) → reply_as (item_in last) r ≡ told → reply_did told p (owner_by_parts bytes asked (OwnerStage.Polls p) last) ≡ Some done → Goes done.owner cut (by_owner h done.act first growth)
+    replies : (told : Option Told) → reply_as (item_in last) r ≡ told → reply_did told p (owner_by_parts bytes client asked (OwnerStage.Polls p) last) ≡ Some done → Goes done.owner cut (by_owner h done.act first growth)
     replies (Some said) same does =
-        subst (λ (d : Did). Goes d.owner cut (by_owner h d.act first growth)) (ap (value_of done) does) (reply_goes bytes asked p last h first growth cut r said is same t)
+        subst (λ (d : Did). Goes d.owner cut (by_owner h d.act first growth)) (ap (value_of done) does) (reply_goes bytes client asked p last h first growth cut r said is same t)
     replies None same does = absurd (nothing does)
-own_by bytes asked p h first growth cut done (OwnerAction.Fill most) last is t does = own_fills bytes asked p h first growth cut done most last is t does
-own_by bytes asked p h first growth cut done OwnerAction.DropHandle last is t does =
-    subst (λ (d : Did). Goes d.owner cut (by_owner h d.act first growth)) (ap (value_of done) does) (drops_goes bytes asked p last h first growth cut is t)
-own_by bytes asked p h first growth cut done OwnerAction.Close (Some s) is t does =
-    subst (λ (d : Did). Goes d.owner cut (by_owner h d.act first growth)) (ap (value_of done) (piped_some s.goods _ done does)) (close_goes bytes asked p s h first growth cut is t)
-own_by bytes asked p h first growth cut done (OwnerAction.Drain most) (Some s) is t does =
+own_by bytes client asked p h first growth cut done (OwnerAction.Fill most) last is t does = own_fills bytes client asked p h first growth cut done most last is t does
+own_by bytes client asked p h first growth cut done OwnerAction.DropHandle last is t does =
+    subst (λ (d : Did). Goes d.owner cut (by_owner h d.act first growth)) (ap (value_of done) does) (drops_goes bytes client asked p last h first growth cut is t)
+own_by bytes client asked p h first growth cut done OwnerAction.Close (Some s) is t does =
+    subst (λ (d : Did). Goes d.owner cut (by_owner h d.act first growth)) (ap (value_of done) (piped_some s.goods _ done does)) (close_goes bytes client asked p s h first growth cut is t)
+own_by bytes client asked p h first growth cut done (OwnerAction.Drain most) (Some s) is t does =
     subst (λ (d : Did). Goes d.owner cut (by_owner h d.act first growth)) (ap (value_of done) (through_some OfBytes s.goods _ done does).1)
-    (drain_goes bytes asked p s h first growth cut most is t (drained (reach most s) s) refl)
-own_by bytes asked p h first growth cut done OwnerAction.Receive (Some s) is t does =
+    (drain_goes bytes client asked p s h first growth cut most is t (drained (reach most s) s) refl)
+own_by bytes client asked p h first growth cut done OwnerAction.Receive (Some s) is t does =
     subst (λ (d : Did). Goes d.owner cut (by_owner h d.act first growth)) (ap (value_of done) (through_some OfItems s.goods _ done does).1)
-    (receive_goes bytes asked p s h first growth cut is t (received s) refl)
-own_by bytes asked p h first growth cut done OwnerAction.PollSlot (Some s) is t does = look_goes bytes asked p s h first growth cut is t s.slot.content refl done does
-own_by bytes asked p h first growth cut done OwnerAction.PollResult (Some s) is t does = find_goes bytes asked p s h first growth cut is t s.result.content refl done does
-own_by bytes asked p h first growth cut done _ None is t does = absurd (nothing does)
-own_by bytes asked p h first growth cut done _ (Some s) is t does = absurd (nothing does)
+    (receive_goes bytes client asked p s h first growth cut is t (received s) refl)
+own_by bytes client asked p h first growth cut done OwnerAction.PollSlot (Some s) is t does = look_goes bytes client asked p s h first growth cut is t s.slot.content refl done does
+own_by bytes client asked p h first growth cut done OwnerAction.PollResult (Some s) is t does = find_goes bytes client asked p s h first growth cut is t s.result.content refl done does
+own_by bytes client asked p h first growth cut done _ None is t does = absurd (nothing does)
+own_by bytes client asked p h first growth cut done _ (Some s) is t does = absurd (nothing does)
 
-own_at : (bytes : ℕ) (asked : Option HandleCall) (here : OwnerStage) (last : Option Session) (h first : ℕ) (growth : Growth) (cut : List Event) (done : Did)
-    → OwnerAs (owner_by_parts bytes asked here last) cut → did_by here (owner_by_parts bytes asked here last) ≡ Some done → Goes done.owner cut (by_owner h done.act first growth)
-own_at bytes asked (OwnerStage.Polls p) last h first growth cut done t does =
-    own_by bytes asked p h first growth cut done p.next last refl t
-    (ap (λ n. did_in n p last (owner_by_parts bytes asked (OwnerStage.Polls p) last)) (sym (doing p t.stage.1)) ∙ does)
-own_at bytes asked _ last h first growth cut done t does = absurd (nothing does)
+own_at : (bytes client : ℕ) (asked : Option HandleCall) (here : OwnerStage) (last : Option Session) (h first : ℕ) (growth : Growth) (cut : List Event) (done : Did)
+    → OwnerAs (owner_by_parts bytes client asked here last) cut → did_by here (owner_by_parts bytes client asked here last) ≡ Some done → Goes done.owner cut (by_owner h done.act first growth)
+own_at bytes client asked (OwnerStage.Polls p) last h first growth cut done t does =
+    own_by bytes client asked p h first growth cut done p.next last refl t
+    (ap (λ n. did_in n p last (owner_by_parts bytes client asked (OwnerStage.Polls p) last)) (sym (doing p t.stage.1)) ∙ does)
+own_at bytes client asked _ last h first growth cut done t does = absurd (nothing does)
 
 -- an act of its poll that asks no pool
 pub own_goes : (owner : Owner) (h first : ℕ) (growth : Growth) (cut : List Event) (done : Did) → did owner ≡ Some done → OwnerAs owner cut
     → Goes done.owner cut (by_owner h done.act first growth)
-own_goes owner h first growth cut done does t = own_at owner.capacity owner.asked owner.stage owner.session h first growth cut done t does
+own_goes owner h first growth cut done does t = own_at owner.capacity owner.client owner.asked owner.stage owner.session h first growth cut done t does

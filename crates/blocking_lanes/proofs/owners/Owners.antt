@@ -111,8 +111,8 @@ aside row past now a h =
 
 -- ---- a new owner
 
-new_tied : (h capacity first : ℕ) (growth : Growth) → OwnerAs (new_owner capacity) (by_owner h (Made h capacity) first growth ∷ [])
-new_tied h capacity first growth = record {
+new_tied : (h capacity client first : ℕ) (growth : Growth) → OwnerAs (new_owner capacity client) (by_owner h (Made h capacity) first growth ∷ [])
+new_tied h capacity client first growth = record {
   made = refl;
   gone = (refl, refl, refl);
   asked = refl;
@@ -131,12 +131,12 @@ new_tied h capacity first growth = record {
 or_false : (b : Bool) → (b || false) ≡ b
 or_false b = grind arith
 
-pub born : (row : List Owner) (past : List Moment) (now : Moment) (capacity : ℕ) → MakesOwner now.event (length row) capacity → OwnersHold row past
-    → OwnersHold (row ++ new_owner capacity ∷ []) (now ∷ past)
-born row past now capacity makes h =
+pub born : (row : List Owner) (past : List Moment) (now : Moment) (capacity client : ℕ) → MakesOwner now.event (length row) capacity → OwnersHold row past
+    → OwnersHold (row ++ new_owner capacity client ∷ []) (now ∷ past)
+born row past now capacity client makes h =
     let e = now.event in
     let X = events past in
-    let more = length-append row (new_owner capacity ∷ []) in
+    let more = length-append row (new_owner capacity client ∷ []) in
     let grown : owners (now ∷ past) ≡ suc (owners past) =
     ap (λ b. length (cond b (now ∷ filter (λ m. is_making m.event.act) past) (filter (λ m. is_making m.event.act) past))) (ap (λ (x : Event). is_making x.act) makes.event_is) in
     let count = h.tied.count in
@@ -148,8 +148,8 @@ born row past now capacity makes h =
             (λ before. let within = slice_get_within row g owner before in
             subst (OwnerAs owner) (sym (cut_same g e X (in_is g ∙ grind (arith, nat_tests)))) (h.tied.each g owner before))
             (λ last. let place = last.0 in
-            subst (λ (o : Owner). OwnerAs o (cut g (e ∷ X))) last.1 (subst (OwnerAs (new_owner capacity)) (sym (alone g (omega (arith, place)))) (new_tied (length row) capacity makes.first makes.growth)))
-            (in_pushed row (new_owner capacity) g owner found);
+            subst (λ (o : Owner). OwnerAs o (cut g (e ∷ X))) last.1 (subst (OwnerAs (new_owner capacity client)) (sym (alone g (omega (arith, place)))) (new_tied (length row) capacity client makes.first makes.growth)))
+            (in_pushed row (new_owner capacity client) g owner found);
         unborn = λ g beyond. cut_same g e X (in_is g ∙ grind (arith, nat_tests)) ∙ h.tied.unborn g (omega (arith, more, beyond));
         unheld = λ s none. acts_same s e X (no_job s) ∙ h.tied.unheld s (sym (holder_old past now s (not_new s)) ∙ none);
         begun = λ g s held. subst (λ l. is_in s l ≡ true) (sym (jobs_same g)) (h.tied.begun g s (sym (holder_old past now s (not_new s)) ∙ held));
@@ -187,7 +187,7 @@ born row past now capacity makes h =
     law g true test =
         let same : length row ≡ g = grind (arith, nat_tests) in
         subst OwnerLaws (sym (alone g same))
-        (record { acts = refl; ends = tt; passed = passes None (capacity_of (new_owner capacity)) (made ∷ []) (λ kind. refl) (refl, refl, refl) }, tt)
+        (record { acts = refl; ends = tt; passed = passes None (capacity_of (new_owner capacity client)) (made ∷ []) (λ kind. refl) (refl, refl, refl) }, tt)
     law g false test = subst OwnerLaws (sym (cut_same g now.event (events past) (in_is g ∙ test))) (h.laws g)
 
 -- ---- a step of one owner

@@ -190,8 +190,8 @@ asks_so x HandleCall.Operate end asked at past may pends there here ends = asks_
 asks_so x call end asked at past may pends there here ends = asks_first x call at past may there here refl (λ is. absurd (never is))
 
 -- it rests, by the law
-rests_so : (bytes : ℕ) (asked : Option HandleCall) (here : State) (end : PollEnd) (last : Option Session) (cut : List Event) → OwnerAs (owner_by_parts bytes asked (OwnerStage.Rests here end) last) cut → seen_rests (own cut) ≡ true
-rests_so bytes asked here end last cut t = rw (t.made, t.gone.1, t.polled) refl
+rests_so : (bytes client : ℕ) (asked : Option HandleCall) (here : State) (end : PollEnd) (last : Option Session) (cut : List Event) → OwnerAs (owner_by_parts bytes client asked (OwnerStage.Rests here end) last) cut → seen_rests (own cut) ≡ true
+rests_so bytes client asked here end last cut t = rw (t.made, t.gone.1, t.polled) refl
 
 -- it waits, as its last poll ended
 waits_so : (end : PollEnd) (at : State) (waits operates begun found : Bool) → EndsAs end at waits operates begun found → waits ≡ is_pending end
@@ -199,26 +199,26 @@ waits_so PollEnd.Replied at waits operates begun found ends = ends
 waits_so _ at waits operates begun found ends = ends.0
 
 -- and an operation is pending, by the law, where it is by the lane
-pub pends_so : (bytes : ℕ) (asked : Option HandleCall) (here : State) (end : PollEnd) (last : Option Session) (cut : List Event) → OwnerAs (owner_by_parts bytes asked (OwnerStage.Rests here end) last) cut
+pub pends_so : (bytes client : ℕ) (asked : Option HandleCall) (here : State) (end : PollEnd) (last : Option Session) (cut : List Event) → OwnerAs (owner_by_parts bytes client asked (OwnerStage.Rests here end) last) cut
     → seen_is_pending_operation (own cut) ≡ (is_pending end && is_operation asked)
-pends_so bytes asked here end last cut t =
+pends_so bytes client asked here end last cut t =
     pending_is (own cut) ∙ ap (λ c. is_waiting (own cut) && is_operation c) t.asked
     ∙ ap (λ b. b && is_operation asked) (waits_so end here (is_waiting (own cut)) (is_operation asked) (has_begun (own cut)) (has_found (own cut)) t.operates)
 
-pub ask_goes : (bytes : ℕ) (asked : Option HandleCall) (here : State) (end : PollEnd) (last : Option Session) (h first : ℕ) (growth : Growth) (cut : List Event) (call : HandleCall)
+pub ask_goes : (bytes client : ℕ) (asked : Option HandleCall) (here : State) (end : PollEnd) (last : Option Session) (h first : ℕ) (growth : Growth) (cut : List Event) (call : HandleCall)
     → may_call_at here call ≡ true → (not (seen_is_into_inner asked) || seen_is_into_inner (Some call)) ≡ true
-    → (not (is_again call) || (is_pending end && is_operation asked)) ≡ true → OwnerAs (owner_by_parts bytes asked (OwnerStage.Rests here end) last) cut
-    → Goes (owner_by_parts bytes (Some call) (OwnerStage.Polls (new_poll (poll_call_of (is_for_result end) call) here)) last) cut (by_owner h (Asked call) first growth)
-ask_goes bytes asked here end last h first growth cut call may still pends t =
+    → (not (is_again call) || (is_pending end && is_operation asked)) ≡ true → OwnerAs (owner_by_parts bytes client asked (OwnerStage.Rests here end) last) cut
+    → Goes (owner_by_parts bytes client (Some call) (OwnerStage.Polls (new_poll (poll_call_of (is_for_result end) call) here)) last) cut (by_owner h (Asked call) first growth)
+ask_goes bytes client asked here end last h first growth cut call may still pends t =
     let a = asks_so (item_in last) call end asked here (own cut) may pends (is_there last (bound bytes) cut here t.last t.stage.0) t.stage.0 t.operates in
     let inner : (not (seen_was_asked_inner (own cut)) || seen_is_into_inner (Some call)) ≡ true = ap (λ b. not b || seen_is_into_inner (Some call)) t.gone.2 ∙ still in
     record {
       acts = all_true (seen_rests (own cut)) (not (seen_is_closed (own cut)) || is_for_closed call) (not (seen_was_asked_inner (own cut)) || seen_is_into_inner (Some call))
           (not (is_again call) || seen_is_pending_operation (own cut))
-          (rests_so bytes asked here end last cut t)
+          (rests_so bytes client asked here end last cut t)
           (ap (λ b. not b || is_for_closed call) (gone_is (own cut) here t.stage.0) ∙ may_be_asked here call ∙ may)
           inner
-          (ap (λ b. not (is_again call) || b) (pends_so bytes asked here end last cut t) ∙ pends);
+          (ap (λ b. not (is_again call) || b) (pends_so bytes client asked here end last cut t) ∙ pends);
       ends = tt;
       tie = record {
         made = t.made;
@@ -260,10 +260,10 @@ dropped_last (Some s) bytes h first growth cut t = record {
   seats = t.seats;
 }
 
-pub drop_goes : (bytes : ℕ) (asked : Option HandleCall) (here : State) (end : PollEnd) (last : Option Session) (h first : ℕ) (growth : Growth) (cut : List Event)
-    → OwnerAs (owner_by_parts bytes asked (OwnerStage.Rests here end) last) cut → Goes (owner_by_parts bytes asked OwnerStage.Dropped last) cut (by_owner h HolderDropped first growth)
-drop_goes bytes asked here end last h first growth cut t = record {
-  acts = rests_so bytes asked here end last cut t;
+pub drop_goes : (bytes client : ℕ) (asked : Option HandleCall) (here : State) (end : PollEnd) (last : Option Session) (h first : ℕ) (growth : Growth) (cut : List Event)
+    → OwnerAs (owner_by_parts bytes client asked (OwnerStage.Rests here end) last) cut → Goes (owner_by_parts bytes client asked OwnerStage.Dropped last) cut (by_owner h HolderDropped first growth)
+drop_goes bytes client asked here end last h first growth cut t = record {
+  acts = rests_so bytes client asked here end last cut t;
   ends = tt;
   tie = record {
     made = t.made;
@@ -306,19 +306,19 @@ refused begun x HandleCall.Operate p reason back begins = record { replies = ref
 refused begun x HandleCall.OperateAgain p reason back begins = record { replies = refl; says = refl; fits = (refl, tt, tt) }
 refused begun x _ p reason back begins = absurd begins
 
-pub refuse_goes : (bytes : ℕ) (asked : Option HandleCall) (p : OwnerMachine ℕ) (last : Option Session) (h first : ℕ) (growth : Growth) (cut : List Event) (reason : Refusal) → p.next ≡ OwnerAction.Begin
-    → OwnerAs (owner_by_parts bytes asked (OwnerStage.Polls p) last) cut
-    → Goes (owner_by_parts bytes asked (OwnerStage.Polls (owner_after p (OwnerAnswer.Refused reason))) last) cut (by_owner h (Refused reason) first growth)
-refuse_goes bytes asked p last h first growth cut reason is t =
+pub refuse_goes : (bytes client : ℕ) (asked : Option HandleCall) (p : OwnerMachine ℕ) (last : Option Session) (h first : ℕ) (growth : Growth) (cut : List Event) (reason : Refusal) → p.next ≡ OwnerAction.Begin
+    → OwnerAs (owner_by_parts bytes client asked (OwnerStage.Polls p) last) cut
+    → Goes (owner_by_parts bytes client asked (OwnerStage.Polls (owner_after p (OwnerAnswer.Refused reason))) last) cut (by_owner h (Refused reason) first growth)
+refuse_goes bytes client asked p last h first growth cut reason is t =
     let c = t.stage.0.call in
     let q : OwnerMachine ℕ = record p { next = OwnerAction.Reply (refused_reply c reason) } in
-    let r = refused t.stage.0.begun (item_in last) c q reason (came_back cut) (fits_at bytes asked p cut last OwnerAction.Begin t is).0 in
+    let r = refused t.stage.0.begun (item_in last) c q reason (came_back cut) (fits_at bytes client asked p cut last OwnerAction.Begin t is).0 in
     let same : owner_after p (OwnerAnswer.Refused reason) ≡ q =
     turned p OwnerAction.Begin (OwnerAnswer.Refused reason) t.stage.1 is ∙ ap (λ k. record p { next = machine.refusal k reason }) t.stage.0.call_is
     ∙ ap (λ (n : OwnerAction ℕ). record p { next = n }) r.replies in
-    subst (λ (m : OwnerMachine ℕ). Goes (owner_by_parts bytes asked (OwnerStage.Polls m) last) cut (by_owner h (Refused reason) first growth)) (sym same)
+    subst (λ (m : OwnerMachine ℕ). Goes (owner_by_parts bytes client asked (OwnerStage.Polls m) last) cut (by_owner h (Refused reason) first growth)) (sym same)
     (record {
-      acts = subst (λ n. Polls cut n (Refused reason)) (sym (lawful bytes asked p cut last OwnerAction.Begin t is)) tt;
+      acts = subst (λ n. Polls cut n (Refused reason)) (sym (lawful bytes client asked p cut last OwnerAction.Begin t is)) tt;
       ends = tt;
       tie = record {
         made = t.made;
@@ -368,15 +368,15 @@ fits_then c p _ ended back e f = absurd f
 noted_goes_on : (acts : List Act) (n : ℕ) → newest_note acts ≡ Some n → law.is_at_end acts ≡ false
 noted_goes_on acts n e = grind arith
 
-pub deliver_goes : (bytes : ℕ) (asked : Option HandleCall) (p : OwnerMachine ℕ) (note : JobNumber) (last : Option Session) (h first : ℕ) (growth : Growth) (cut : List Event) (woke : Woke)
-    → OwnerAs (owner_by_parts bytes asked (OwnerStage.Wakes p note) last) cut
-    → Goes (owner_by_parts bytes asked (OwnerStage.Polls (owner_after p OwnerAnswer.Delivered)) last) cut (by_owner h (JobWoken note.serial woke) first growth)
-deliver_goes bytes asked p note last h first growth cut woke t =
+pub deliver_goes : (bytes client : ℕ) (asked : Option HandleCall) (p : OwnerMachine ℕ) (note : JobNumber) (last : Option Session) (h first : ℕ) (growth : Growth) (cut : List Event) (woke : Woke)
+    → OwnerAs (owner_by_parts bytes client asked (OwnerStage.Wakes p note) last) cut
+    → Goes (owner_by_parts bytes client asked (OwnerStage.Polls (owner_after p OwnerAnswer.Delivered)) last) cut (by_owner h (JobWoken note.serial woke) first growth)
+deliver_goes bytes client asked p note last h first growth cut woke t =
     let e = by_owner h (JobWoken note.serial woke) first growth in
     let q : OwnerMachine ℕ = record p { is_waking = false } in
     let same : owner_after p OwnerAnswer.Delivered ≡ q = ap (λ b. owner_in b OwnerAnswer.Delivered p) t.stage.1 in
     let wakes = next_with cut ∙ ap (λ n. deliver_first n (owner_next_but_wake cut (own cut))) t.stage.2 in
-    subst (λ (m : OwnerMachine ℕ). Goes (owner_by_parts bytes asked (OwnerStage.Polls m) last) cut e) (sym same)
+    subst (λ (m : OwnerMachine ℕ). Goes (owner_by_parts bytes client asked (OwnerStage.Polls m) last) cut e) (sym same)
     (record {
       acts = subst (λ n. Polls cut n (JobWoken note.serial woke)) (sym wakes) refl;
       ends = tt;
@@ -474,12 +474,12 @@ begins_by begun HandleCall.Operate p back begins end = record { lending = tt; at
 begins_by begun HandleCall.OperateAgain p back begins end = record { lending = tt; at_is = refl; next_is = refl; fits = (refl, refl, end); operates = (refl, refl) }
 begins_by begun _ p back begins end = absurd begins
 
-pub begin_goes : (bytes : ℕ) (asked : Option HandleCall) (p : OwnerMachine ℕ) (last : Option Session) (h first : ℕ) (growth : Growth) (cut : List Event) (number : JobNumber) → p.next ≡ OwnerAction.Begin
-    → is_in number.serial (jobs_of (own cut)) ≡ false → acts_of number.serial cut ≡ [] → OwnerAs (owner_by_parts bytes asked (OwnerStage.Polls p) last) cut
-    → Goes (owner_by_parts bytes asked (OwnerStage.Polls (owner_after p OwnerAnswer.Begun)) (Some (new_session number (goods_of (kind_of asked)) (bound bytes (kind_of asked))))) cut (by_owner h (Accepted number.serial) first growth)
-begin_goes bytes asked p last h first growth cut number is fresh quiet t =
+pub begin_goes : (bytes client : ℕ) (asked : Option HandleCall) (p : OwnerMachine ℕ) (last : Option Session) (h first : ℕ) (growth : Growth) (cut : List Event) (number : JobNumber) → p.next ≡ OwnerAction.Begin
+    → is_in number.serial (jobs_of (own cut)) ≡ false → acts_of number.serial cut ≡ [] → OwnerAs (owner_by_parts bytes client asked (OwnerStage.Polls p) last) cut
+    → Goes (owner_by_parts bytes client asked (OwnerStage.Polls (owner_after p OwnerAnswer.Begun)) (Some (new_session number (goods_of (kind_of asked)) (bound bytes (kind_of asked))))) cut (by_owner h (Accepted number.serial) first growth)
+begin_goes bytes client asked p last h first growth cut number is fresh quiet t =
     let c = t.stage.0.call in
-    let fits = fits_at bytes asked p cut last OwnerAction.Begin t is in
+    let fits = fits_at bytes client asked p cut last OwnerAction.Begin t is in
     let e = by_owner h (Accepted number.serial) first growth in
     let k = t.stage.0.begun in
     let b = begins_by k c p (came_back cut) fits.0 fits.2 in
@@ -494,9 +494,9 @@ begin_goes bytes asked p last h first growth cut number is fresh quiet t =
     let idle = lent_by (own cut) p.state there t.stage.0.at_is ∙ ap state_as fits.1 in
     let s = new_session number (goods_of (kind_of asked)) (bound bytes (kind_of asked)) in
     let same_kind : kind_of (Some c) ≡ kind_of asked = sym kind ∙ ap kind_of t.asked in
-    subst (λ (m : OwnerMachine ℕ). Goes (owner_by_parts bytes asked (OwnerStage.Polls m) (Some s)) cut e) (sym same)
+    subst (λ (m : OwnerMachine ℕ). Goes (owner_by_parts bytes client asked (OwnerStage.Polls m) (Some s)) cut e) (sym same)
     (record {
-      acts = subst (λ n. Polls cut n (Accepted number.serial)) (sym (lawful bytes asked p cut last OwnerAction.Begin t is)) fresh;
+      acts = subst (λ n. Polls cut n (Accepted number.serial)) (sym (lawful bytes client asked p cut last OwnerAction.Begin t is)) fresh;
       ends = tt;
       tie = record {
         made = t.made;

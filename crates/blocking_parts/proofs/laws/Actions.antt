@@ -3,7 +3,7 @@ use Rattle.std.proofs.Common.{◌≡◌, ℕ, ◌+◌, List, length, Bool, false
 use Rattle.std.proofs.lemmas.Bool.{lt-ltb}
 use Rattle.std.proofs.lemmas.Bool.Decides.{nat_tests}
 use Rattle.std.proofs.lemmas.Option.{slice_get_within}
-use Rattle.blocking_parts.proofs.Types.{Event, Moment, Party, HandleCall, Step, Arrive, Ask, Copy, DropOwner, End, Io, Job, Late, Link, New, OfTask, Own, SetLimit, Spawn, Stray, Strike, Sweep, Take, Wait, TaskCall, Hand, Row}
+use Rattle.blocking_parts.proofs.Types.{Event, Moment, Party, HandleCall, Step, Arrive, Ask, Copy, DropOwner, End, Io, Job, Late, Link, New, OfTask, Own, SetClientLimit, SetLimit, Spawn, Stray, Strike, Sweep, Take, Wait, TaskCall, Hand, Row}
 use Rattle.blocking_parts.proofs.Words.{starts, arrivals, tasks, holder, standing, events, acts_of_task, task_cut, cut, own, acts_of_owner, under_way, is_poll_over, is_there, is_job_action, is_answered_action, is_turn_end, is_for_cancelled, may_call, may_cancel, has_action, hand, hand_at, is_free_hand, HandAs, OwnerAs, Owner, next_of, did, Task, may_be, is_gone_as, CancelAs, TaskAs, may_call_in, rests_in, may_ask_in, may_own, may_own_in, has_action_in, Parts, row_of, let_go_by, Tied, IsFree}
 use Rattle.blocking_laws.specs.Lent.{copiers, has_owner}
 use Rattle.blocking_laws.specs.Sessions as sessions
@@ -105,8 +105,9 @@ module _ (setting : ℕ) (plan : List Bool) (w : Parts) (past : List Moment) (t 
   has_is (SetLimit n) free = limit_by n (n == 0) (nat_lt 0 n) refl refl
   has_is (Stray s) free = stray_by s (row_of w.rows s) refl
   has_is (Strike s) free = strike_by s (row_of w.rows s) refl
-  has_is (New capacity) free = refl
-  has_is Spawn free = refl
+  has_is (New capacity client) free = refl
+  has_is (Spawn client) free = refl
+  has_is (SetClientLimit limit) free = refl
   has_is Sweep free = refl
   has_is (Link a b n) free = absurd free
   has_is (Copy k) free = absurd free

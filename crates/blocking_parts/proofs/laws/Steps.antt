@@ -1,9 +1,10 @@
 -- What is seen of a move is of its step, as the law of steps has it, with those of owners.
-use Rattle.std.proofs.Common.{◌≡◌, ℕ, ◌+◌, ◌-◌, List, length, Bool, true, false, refl, sym, ap, ◌∙◌, subst, arith, Option, Some, None, if◌then◌else◌, nat_lt, not, ◌==◌, slice_get, slice_set, is_some, Result}
+use Rattle.std.proofs.Common.{◌≡◌, ℕ, ◌+◌, ◌-◌, List, length, Bool, true, false, refl, sym, ap, ◌∙◌, subst, arith, Option, Some, None, if◌then◌else◌, nat_lt, not, ◌==◌, slice_get, slice_set, is_some, IfSome, ◌<◌, Result}
 use Rattle.std.proofs.lemmas.Bool.Decides.{nat_tests}
-use Rattle.blocking_parts.proofs.Types.{Refusal, Stay, Stop, Act, Arrived, Asked, Made, NoAction, Event, Moment, Party, ByOwner, Worker, Answer, Step, Arrive, Ask, Copy, End, Late, SetLimit, Sweep, Take, Wait, TaskCall, Holds, Held, Parking, OwnerNext, OwnerStage, Core, Row}
+use Rattle.blocking_parts.proofs.Types.{Refusal, Stay, Stop, Act, Arrived, Asked, Made, NoAction, Event, Moment, Party, ByOwner, Worker, Answer, Step, Arrive, Ask, Copy, End, Late, SetClientLimit, SetLimit, Sweep, Take, Wait, TaskCall, Holds, Held, Parking, OwnerNext, OwnerStage, Core, Row}
 use Rattle.blocking_parts.proofs.Words.{Growth, JobNumber, arrivals, IsPlanned, holder, as_owner, is_of_pool, is_nothing, is_there, is_turn_end, has_action, named, party, job_of, IsBegun, IsOfTask, IsEndOf, Fits, Happens, StepLaw, hand, hand_at, is_free_hand, added_act, parked_act, HandAs, Acts, act_in, Owner, note_at, next_of, Did, did_by, did, Session, Task, task_act, Move, Idles, Makes, Asks, Owns, Lends, Delivers, IsDropped, Begins, Calls, Works, IsAnswered, Parks, Passes, IsWoken, IsStruck, Notes, step_by, step_of, rows_after, may_call_in, rests_in, may_ask_in, may_own, may_own_in, has_action_in, is_pass, IsDue, May, CrewMoves, is_own_step, Parts, row_of, owner_by, owner_of, done_in, let_go_by, party_of, owner_in, core_after_answer, moment, Tied, IsFree}
 use Rattle.blocking_laws.specs.Steps as law
+use Rattle.blocking_laws.specs.Steps.{may_limit}
 use Rattle.blocking_laws.specs.declared.event.WaitEnd.TheVariants.{Woken, TimedOut}
 use Rattle.blocking_crew.specs.Moves as crew
 use Rattle.blocking_lanes.specs.Owners.{may_ask, next_at}
@@ -76,6 +77,11 @@ record IsOfStep (past : List Moment) (step : Step) (e : Event) : Type 0 where
 idle_so : (past : List Moment) (step : Step) (e : Event) → Told (named step) None NoAction e → has_action past step ≡ false → IsOfStep past step e
 idle_so past step e told none = grind arith
 
+-- a client limit above 0 may be set
+limit_so : (limit : Option ℕ) → IfSome limit (λ most. 0 < most) → may_limit limit ≡ true
+limit_so None positive = refl
+limit_so (Some most) positive = grind (arith, nat_tests)
+
 -- what the crew shows of an act is that act
 shown : (who : Party) (job : Option ℕ) (act : Act) (first : ℕ) (growth : Growth) → Told who job act (crew.seen who job act first growth)
 shown who job act first growth = record { party = refl; owner = refl; job_is = refl; act_is = refl }
@@ -131,6 +137,8 @@ module _ (setting : ℕ) (plan : List Bool) (w : Parts) (past : List Moment) (t 
   passes_so (crew.SetsLimit n) may pass is_due =
       let has : not (n == 0) ≡ true = grind (arith, nat_tests) in
       done_so (SetLimit n) _ _ _ _ (shown _ _ _ _ _) tt has refl refl refl refl
+  passes_so (crew.SetsClientLimit limit) may pass is_due =
+      done_so (SetClientLimit limit) _ _ _ _ (shown _ _ _ _ _) tt (limit_so limit may) refl refl refl refl
   passes_so (crew.Sweeps growth pool) may pass is_due =
       done_so Sweep _ _ _ _ (shown _ _ _ _ _) tt refl refl tt refl refl
   passes_so _ may pass is_due = absurd cc
@@ -151,7 +159,7 @@ module _ (setting : ℕ) (plan : List Bool) (w : Parts) (past : List Moment) (t 
   -- what is seen of a move is of its step
   step_so : (move : Move) (e : Event) (new : Parts) → is_own_step move ≡ true → IsFree past (step_of move) → May w move → CrewMoves (IsPlanned plan) move w e new → SaidBy w move e → IsOfStep past (step_of move) e
   step_so (Idles step) e new own free may does told = idle_so past step e told (rests step free may)
-  step_so (Makes capacity) e new own free may does told = done_so _ _ _ _ e told free refl refl (ap (λ h. Made h capacity) t.owned.count) (ap ByOwner t.owned.count) refl
+  step_so (Makes capacity client) e new own free may does told = done_so _ _ _ _ e told free refl refl (ap (λ h. Made h capacity) t.owned.count) (ap ByOwner t.owned.count) refl
   step_so (Asks (Ask g other) h call owner) e new own free may does told =
       let same = may.1.1.0 in
       let one = may.1.1.1 in
@@ -166,7 +174,7 @@ module _ (setting : ℕ) (plan : List Bool) (w : Parts) (past : List Moment) (t 
   step_so (Delivers h owner number) e new own free may does told =
       done_so _ _ _ _ e told.1 free (ap may_own_in may.0 ∙ ap (λ n. may_own n (did owner)) (noted_next owner.stage owner.session number may.1)) refl refl refl refl
   step_so (IsDropped h owner) e new own free may does told = done_so _ _ _ _ e told free (ap rests_in may.0 ∙ may.1) refl refl refl refl
-  step_so (Begins added) e new own free may does told = done_so _ _ _ _ e told free refl (begun_fits added).0 (begun_fits added).1 refl refl
+  step_so (Begins client added) e new own free may does told = done_so _ _ _ _ e told free refl (begun_fits added).0 (begun_fits added).1 refl refl
   step_so (Calls k call task) e new own free may does told = done_so _ _ _ _ e told free (ap (λ o. may_call_in o call) may.0 ∙ may.1) (call_plainly call task) (call_fits call task) refl refl
   step_so (Works v job done) e new own free may does told =
       let own = own_act job.held.stage job.row.core w.tasks w.owners done may.1 in

@@ -21,6 +21,7 @@ use Rattle.blocking_parts.proofs.moves.Steps.{crew_more}
 use Rattle.blocking_parts.proofs.rows.JobMoves.{rows_worked, rows_answered}
 use Rattle.blocking_parts.proofs.rows.NewJobs.{rows_begun, rows_lent}
 use Rattle.blocking_parts.proofs.rows.OtherMoves.{rows_stay}
+use Rattle.blocking_parts.proofs.ties.Clients.{assigned_after}
 use Rattle.blocking_parts.proofs.ties.CrewDemands.{asked}
 use Rattle.blocking_parts.proofs.ties.Jobs.{owner_tie, row_known}
 use Rattle.blocking_parts.proofs.ties.LeftJobs.{crossed_after}
@@ -48,13 +49,13 @@ module _ (setting : ℕ) (plan : List Bool) (w : Parts) (past : List Moment) (la
     numbers : (s : ℕ) (row : Row) → row_of w.rows s ≡ Some row → IsNumberOf new.crew.pool row.number
 
   -- A call of the crew keeps the crew, the numbers of jobs, and that queued jobs are served.
-  called : (step : Step) (call : crew.Call) → IsAsked w.crew past call → crew.Moves (IsPlanned plan) call w.crew e new.crew → CrewKept step
+  called : (step : Step) (call : crew.Call) → IsAsked w.crew past step call → crew.Moves (IsPlanned plan) call w.crew e new.crew → CrewKept step
   called step call asks does = record {
     holds = holds_moved setting plan w.crew past t.crewed (IsPlanned plan) call e new.crew step (owner_of new.rows e.job) (λ n b is. is) does asks;
-    served = served_moved setting plan w.crew new.crew past call e t.crewed does asks step (owner_of new.rows e.job) lawful.served;
+    served = served_moved setting plan w.crew new.crew past call e t.crewed does step (owner_of new.rows e.job) asks lawful.served;
     numbers = λ s row found.
         let r = t.rowed.each s row found in
-        number_moved setting plan w.crew new.crew past call e t.crewed does asks row.number
+        number_moved setting plan w.crew new.crew past call e t.crewed does row.number
         (subst (λ n. is_some (standing past n) ≡ true) (sym r.serial) (row_known setting plan w past t s row found)) r.number;
   }
 
@@ -89,7 +90,7 @@ module _ (setting : ℕ) (plan : List Bool) (w : Parts) (past : List Moment) (la
   rows_kept (Works v job did) may does rows tasks owners c = rows_worked setting plan w past t e new c.numbers v job did may does rows tasks owners c.holds
   rows_kept (IsAnswered v job answer) may does rows tasks owners c =
       rows_answered setting plan w past t e new c.numbers v job answer may does rows tasks owners c.holds
-  rows_kept (Begins (Ok number)) may does rows tasks owners c = rows_begun setting plan w past t e new number c.numbers does rows tasks owners c.holds
+  rows_kept (Begins client (Ok number)) may does rows tasks owners c = rows_begun setting plan w past t e new number c.numbers client does rows tasks owners c.holds
   rows_kept (Lends h owner (Ok number)) may does rows tasks owners c =
       rows_lent setting plan w past t e new number c.numbers h owner may does rows tasks owners c.holds
   rows_kept move may does rows tasks owners c = rows_stay setting plan w past t move e new may does rows tasks owners refl c.holds c.numbers
@@ -107,6 +108,7 @@ module _ (setting : ℕ) (plan : List Bool) (w : Parts) (past : List Moment) (la
         crewed = c.holds;
         tasked = of_tasks.tied;
         owned = of_owners.tied;
+        assigned = assigned_after setting plan w past t e new move may does owners;
         rowed = rows_kept move may does rows tasks owners c;
         marks = marks_after setting plan w past t move e new may does c.holds;
         crossed = crossed_after setting plan w past t move e new may does owners c.holds;
@@ -207,6 +209,7 @@ begins_lawful setting plan positive = record {
       held = λ h s is. absurd cc;
       acts = λ h s held. refl;
     };
+    assigned = λ h owner found. absurd cc;
     rowed = record {
       count = refl;
       each = λ s row found. let none = no_row s in absurd cc;

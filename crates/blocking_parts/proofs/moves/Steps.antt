@@ -79,9 +79,9 @@ tell_moves w k call old left act e which may value acts left_is does =
 
 -- ---- new calls
 
-pub begun : (may_answer : ℕ → Bool → Type 0) (w : Parts) (added : Result JobNumber Refusal) (rows : List Row) (tasks : List Task) (e : Event) (new : Crew) → crew.Moves may_answer (crew.Add Pool added) w.crew e new
-    → rows ≡ rows_after_add w.rows (λ number. call_row number (length w.tasks)) added → tasks ≡ tasks_after_add w.tasks added → Moves may_answer Spawn w e (record w { crew = new; rows = rows; tasks = tasks })
-begun may_answer w added rows tasks e new does rows_are tasks_are = record { its_own = refl; move = Begins added; step_is = refl; may = tt; crew = does; rows_are = rows_are; tasks_are = tasks_are; owners_are = refl }
+pub begun : (may_answer : ℕ → Bool → Type 0) (w : Parts) (client : ℕ) (added : Result JobNumber Refusal) (rows : List Row) (tasks : List Task) (e : Event) (new : Crew) → crew.Moves may_answer (crew.Add Pool client added) w.crew e new
+    → rows ≡ rows_after_add w.rows (λ number. call_row number (length w.tasks)) added → tasks ≡ tasks_after_add w.tasks added → Moves may_answer (Spawn client) w e (record w { crew = new; rows = rows; tasks = tasks })
+begun may_answer w client added rows tasks e new does rows_are tasks_are = record { its_own = refl; move = Begins client added; step_is = refl; may = tt; crew = does; rows_are = rows_are; tasks_are = tasks_are; owners_are = refl }
 
 -- one more was put at the end, where there was room
 pub put_last : {A B X : Type 0} (r : Result A B) (old between new : List X) (x : X) → between ≡ old → is_ok r ≡ true → new ≡ (if is_ok r then between ++ x ∷ [] else between) → new ≡ old ++ x ∷ []
@@ -93,9 +93,9 @@ put_last r old between new x same ok is = is ∙ ap (λ b. if b then between ++ 
 pub found_at : (owners : List Owner) (h : ℕ) (old : Owner) → h < length owners → old ≡ slice_index_or owners h old → slice_get owners h ≡ Some old
 found_at owners h old within value = slice_get_read owners (length owners) h old refl within value
 
-pub made : (w : Parts) (capacity : ℕ) (owners : List Owner) (e : Event) → owners ≡ w.owners ++ new_owner capacity ∷ []
-    → crew.Moves NeverAsked (crew.Tell (ByOwner (length w.owners)) (Made (length w.owners) capacity)) w.crew e w.crew → Moves NeverAsked (New capacity) w e (record w { owners = owners })
-made w capacity owners e is does = record { its_own = refl; move = Makes capacity; step_is = refl; may = tt; crew = does; rows_are = refl; tasks_are = refl; owners_are = is }
+pub made : (w : Parts) (capacity client : ℕ) (owners : List Owner) (e : Event) → owners ≡ w.owners ++ new_owner capacity client ∷ []
+    → crew.Moves NeverAsked (crew.Tell (ByOwner (length w.owners)) (Made (length w.owners) capacity)) w.crew e w.crew → Moves NeverAsked (New capacity client) w e (record w { owners = owners })
+made w capacity client owners e is does = record { its_own = refl; move = Makes capacity client; step_is = refl; may = tt; crew = does; rows_are = refl; tasks_are = refl; owners_are = is }
 
 pub asked : (w : Parts) (h : ℕ) (call : HandleCall) (old left : Owner) (e : Event) → may_ask_in (slice_get w.owners h) call ≡ true → old ≡ slice_index_or w.owners h old → left ≡ owner_after_ask call old
     → crew.Moves NeverAsked (crew.Tell (ByOwner h) (Asked call)) w.crew e w.crew → Moves NeverAsked (Ask h call) w e (record w { owners = slice_set w.owners h left })
@@ -187,7 +187,7 @@ rested w h count old left e within value acts is event = by (did old) refl is
         }
 
 pub lent : (may_answer : ℕ → Bool → Type 0) (w : Parts) (h : ℕ) (old : Owner) (added : Result JobNumber Refusal) (rows : List Row) (owners : List Owner) (e : Event) (new : Crew) → slice_get w.owners h ≡ Some old → next_of old ≡ next.Begins
-    → crew.Moves may_answer (crew.Add (ByOwner h) added) w.crew e new → rows ≡ rows_after_add w.rows (λ number. session_row number h (new_job_of old)) added → owners ≡ slice_set w.owners h (owners_steps.owner_after (lent_step added) old)
+    → crew.Moves may_answer (crew.Add (ByOwner h) old.client added) w.crew e new → rows ≡ rows_after_add w.rows (λ number. session_row number h (new_job_of old)) added → owners ≡ slice_set w.owners h (owners_steps.owner_after (lent_step added) old)
     → Moves may_answer (Own h) w e (record w { crew = new; rows = rows; owners = owners })
 lent may_answer w h old added rows owners e new found begins does rows_are owners_are =
     record { its_own = refl; move = Lends h old added; step_is = refl; may = (found, begins); crew = does; rows_are = rows_are; tasks_are = refl; owners_are = owners_are }

@@ -112,9 +112,9 @@ new_first : (kind : Kind) → is_first (jobs.action_of (new_job kind)) ≡ true
 new_first kind = grind arith
 
 -- it is of the kind that the call asks for which begins the session
-begins_kind : (bytes : ℕ) (asked : Option HandleCall) (here : OwnerStage) (last : Option Session) (cut : List Event) → OwnerAs (owner_by_parts bytes asked here last) cut → next_at here last ≡ next.Begins
+begins_kind : (bytes client : ℕ) (asked : Option HandleCall) (here : OwnerStage) (last : Option Session) (cut : List Event) → OwnerAs (owner_by_parts bytes client asked here last) cut → next_at here last ≡ next.Begins
     → sessions.kind_of (sessions.call (own cut)) ≡ jobs.kind_of (new_job (sessions.kind_of asked))
-begins_kind bytes asked here last cut t begins = grind arith
+begins_kind bytes client asked here last cut t begins = grind arith
 
 -- and that its acceptance tells
 accepted_kind : (h s n first started : ℕ) (refused : Bool) (seen : List Event) → (n == s) ≡ true
@@ -129,12 +129,12 @@ begins_with number goods pipe here owner is = grind arith
 module _ (setting : ℕ) (plan : List Bool) (w : Parts) (past : List Moment) (t : Tied setting plan w past) (e : Event) (new : Parts) (number : JobNumber)
     (numbers : (s : ℕ) (row : Row) → row_of w.rows s ≡ Some row → IsNumberOf new.crew.pool row.number) where
   -- a new call
-  pub rows_begun : CrewMoves (IsPlanned plan) (Begins (Ok number)) w e new → new.rows ≡ rows_after w (Begins (Ok number)) → new.tasks ≡ tasks_after w (Begins (Ok number)) → new.owners ≡ owners_after w (Begins (Ok number))
-      → CrewHolds setting plan new.crew (moment new (step_of (Begins (Ok number))) e ∷ past) → Rowed new (moment new (step_of (Begins (Ok number))) e ∷ past)
-  rows_begun does rows tasks owners later =
-      let said = told (IsPlanned plan) (crew.Add Pool (Ok number)) w.crew new.crew e does in
-      let added = added_of plan Pool w.crew new.crew e number does in
-      rows_born setting plan w past t new (moment new (step_of (Begins (Ok number))) e) (call_row number (length w.tasks))
+  pub rows_begun : (client : ℕ) → CrewMoves (IsPlanned plan) (Begins client (Ok number)) w e new → new.rows ≡ rows_after w (Begins client (Ok number)) → new.tasks ≡ tasks_after w (Begins client (Ok number)) → new.owners ≡ owners_after w (Begins client (Ok number))
+      → CrewHolds setting plan new.crew (moment new (step_of (Begins client (Ok number))) e ∷ past) → Rowed new (moment new (step_of (Begins client (Ok number))) e ∷ past)
+  rows_begun client does rows tasks owners later =
+      let said = told (IsPlanned plan) (crew.Add Pool client (Ok number)) w.crew new.crew e does in
+      let added = added_of plan Pool client w.crew new.crew e number does in
+      rows_born setting plan w past t new (moment new (step_of (Begins client (Ok number))) e) (call_row number (length w.tasks))
       (record {
         accepted = said.act_is;
         by_none = ap is_some_worker said.party;
@@ -144,7 +144,7 @@ module _ (setting : ℕ) (plan : List Bool) (w : Parts) (past : List Moment) (t 
         first = refl;
         core = λ going. refl;
         kind = λ s here. refl;
-        hands = hands_moved (IsPlanned plan) (crew.Add Pool (Ok number)) w.crew new.crew e refl does;
+        hands = hands_moved (IsPlanned plan) (crew.Add Pool client (Ok number)) w.crew new.crew e refl does;
         rows = rows;
         tasks = λ k task found.
             ⊎_elim (λ old. inl old) (λ is. inr (ap (λ (x : Task). x.number) is.1, ap ByTask (sym is.0))) (in_pushed w.tasks (new_task number) k task (ap (λ (l : List Task). slice_get l k) (sym tasks) ∙ found));
@@ -156,8 +156,8 @@ module _ (setting : ℕ) (plan : List Bool) (w : Parts) (past : List Moment) (t 
       → new.rows ≡ rows_after w (Lends h owner (Ok number)) → new.tasks ≡ tasks_after w (Lends h owner (Ok number)) → new.owners ≡ owners_after w (Lends h owner (Ok number))
       → CrewHolds setting plan new.crew (moment new (step_of (Lends h owner (Ok number))) e ∷ past) → Rowed new (moment new (step_of (Lends h owner (Ok number))) e ∷ past)
   rows_lent h owner may does rows tasks theirs later =
-      let said = told (IsPlanned plan) (crew.Add (ByOwner h) (Ok number)) w.crew new.crew e does in
-      let added = added_of plan (ByOwner h) w.crew new.crew e number does in
+      let said = told (IsPlanned plan) (crew.Add (ByOwner h) owner.client (Ok number)) w.crew new.crew e does in
+      let added = added_of plan (ByOwner h) owner.client w.crew new.crew e number does in
       rows_born setting plan w past t new (moment new (step_of (Lends h owner (Ok number))) e) (session_row number h (new_job_of owner))
       (record {
         accepted = said.act_is;
@@ -170,8 +170,8 @@ module _ (setting : ℕ) (plan : List Bool) (w : Parts) (past : List Moment) (t 
         kind = λ s here.
             subst (λ (x : Event). kind_of_job s (acts_of_owner h (x ∷ events past)) ≡ jobs.kind_of (new_job_of owner)) (sym (seen_is new (ByOwner h) None None (Accepted number.serial) e said refl))
             (accepted_kind h s number.serial e.first e.started e.start_refused (events past) here
-            ∙ begins_kind owner.capacity owner.asked owner.stage owner.session (cut h (events past)) (t.owned.each h owner may.0) may.1);
-        hands = hands_moved (IsPlanned plan) (crew.Add (ByOwner h) (Ok number)) w.crew new.crew e refl does;
+            ∙ begins_kind owner.capacity owner.client owner.asked owner.stage owner.session (cut h (events past)) (t.owned.each h owner may.0) may.1);
+        hands = hands_moved (IsPlanned plan) (crew.Add (ByOwner h) owner.client (Ok number)) w.crew new.crew e refl does;
         rows = rows;
         tasks = λ k task found. inl (ap (λ (l : List Task). slice_get l k) (sym tasks) ∙ found);
         owners = λ j other last found is. lent j (h == j) refl other last (ap (λ (l : List Owner). slice_get l j) (sym theirs) ∙ found) is;

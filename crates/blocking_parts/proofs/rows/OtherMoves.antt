@@ -22,7 +22,7 @@ abbrev pub changes_rows : Move → Bool
 changes_rows (Works v job done) = true
 changes_rows (IsAnswered v job answer) = true
 changes_rows (Lends h owner (Ok number)) = true
-changes_rows (Begins (Ok number)) = true
+changes_rows (Begins client (Ok number)) = true
 changes_rows move = false
 
 -- ---- what is seen of such a move
@@ -60,7 +60,7 @@ module _ (setting : ℕ) (plan : List Bool) (w : Parts) (past : List Moment) (t 
       let plain = plain_of step.Acts owner done.act (ap act_in may.1) in
       quiet_by past e _ _ told plain.new plain.pool
   quiet_move (Lends h owner (Ok number)) may does told stay = absurd cc
-  quiet_move (Begins (Ok number)) may does told stay = absurd cc
+  quiet_move (Begins client (Ok number)) may does told stay = absurd cc
   quiet_move (Calls k call task) may does told stay =
       quiet_by past e _ _ told (by_call (λ act. accepted_by act ≡ []) refl (λ n. refl) refl refl refl refl call task) (by_call (λ act. is_of_pool act ≡ false) refl (λ n. refl) refl refl refl refl call task)
   quiet_move (Works v job done) may does told stay = absurd cc
@@ -83,7 +83,7 @@ old_task : (w : Parts) (move : Move) → May w move → changes_rows move ≡ fa
     → (old : Task) × (slice_get w.tasks k ≡ Some old) × (old.number ≡ task.number)
 old_task w (Calls k call old) may stay j task found = kept_in (λ (x : Task). x.number) w.tasks k old (task_after_call call old) may.0 (sym (call_number call old)) j task found
 old_task w (Works v job done) may stay j task found = absurd cc
-old_task w (Begins (Ok number)) may stay j task found = absurd cc
+old_task w (Begins client (Ok number)) may stay j task found = absurd cc
 old_task w _ may stay j task found = (task, found, refl)
 
 -- and each owner's last session too
@@ -96,7 +96,7 @@ owner_set w h old new there same j owner number found is =
     let kept = kept_in number_of w.owners h old new there (sym same) j owner found in (kept.0, kept.1, kept.2 ∙ is)
 
 old_owner : (w : Parts) (move : Move) → May w move → changes_rows move ≡ false → (h : ℕ) (owner : Owner) (number : JobNumber) → slice_get (owners_after w move) h ≡ Some owner → number_of owner ≡ Some number → OldOwner w h number
-old_owner w (Makes capacity) may stay j owner number found is =
+old_owner w (Makes capacity client) may stay j owner number found is =
     ⊎_elim (λ before. (owner, before, is)) (λ new. let none : number_of owner ≡ None = ap number_of (sym new.1) in absurd cc) (in_pushed w.owners _ j owner found)
 old_owner w (Asks by h call old) may stay j owner number found is = owner_set w h old _ may.0 (number_stays (step.IsAsked call) old refl) j owner number found is
 old_owner w (Owns h old done) may stay j owner number found is =

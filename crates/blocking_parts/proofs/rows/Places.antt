@@ -1,7 +1,7 @@
 -- What a job has done, by how it stands, where it is in its turn, and its core: after an event that is no act of it.
 use Rattle.std.proofs.Common.{◌≡◌, ℕ, ◌==◌, List, ◌∷◌, Bool, true, false, refl, sym, ap, ◌∙◌, subst, Option, Some, if◌then◌else◌, ◌&&◌, ◌||◌, arith}
 use Rattle.blocking_parts.proofs.Types.{Entered, Standing, Parked, Queued, Running, Act, Accepted, Ended, HandedOut, JobCancelled, JobWoken, Took, TookDropped, Moment, Party}
-use Rattle.blocking_parts.proofs.Words.{take_from, end_of, PoolAnswers, has_finished, has_given_up, accepts, ends_for_good, is_marked, sweeps, stands_by, is_parked, standing, PoolLaw, queue, EachMayFollow, is_of_job, Turn, GoesOn, MustGiveUp, turn_by, turn, hand_of, HoldsOne, PlaceAs}
+use Rattle.blocking_parts.proofs.Words.{take_answer, end_of, PoolAnswers, has_finished, has_given_up, accepts, ends_for_good, is_marked, sweeps, stands_by, is_parked, standing, PoolLaw, EachMayFollow, is_of_job, Turn, GoesOn, MustGiveUp, turn_by, turn, hand_of, HoldsOne, PlaceAs}
 use Rattle.blocking_laws.proofs.Queues.{held_so}
 use Rattle.blocking_crew.proofs.jobs.Lookups.{woken_is, cancelled_is}
 use Rattle.blocking_parts.proofs.past.Drops.{handed_out}
@@ -48,7 +48,7 @@ module _ (setting : ℕ) (plan : List Bool) (past : List Moment) (laws : EachMay
   handed : (t : ℕ) → standing past t ≡ Some Running → (t ≡ s → PlaceAs (Some Running) MustGiveUp first acts) → (b : Bool) → (t == s) ≡ b → PlaceAs (standing past s) (if b then MustGiveUp else turn past s) first acts
   handed t runs this b same = grind arith
 
-  was_queued : (t : ℕ) → Takes (take_from past (queue past)) t → t ≡ s → PlaceAs (Some Queued) (turn past s) first acts
+  was_queued : (t : ℕ) → Takes (take_answer past) t → t ≡ s → PlaceAs (Some Queued) (turn past s) first acts
   was_queued t takes same = stands (Some Queued) (ap (standing past) (sym same) ∙ taken_queued setting plan past laws t takes)
 
   -- the job whose turn ends runs

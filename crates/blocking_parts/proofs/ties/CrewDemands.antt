@@ -1,8 +1,9 @@
--- What the crew asks of a move: that a number is its job's, that who lets go of a job holds it, and that a ticket bears its job's mark.
+-- What the crew asks of a move: that a new job is of the client of the step, that a number is its job's, that who lets go of a job holds it,
+-- and that a ticket bears its job's mark.
 use Rattle.std.proofs.Common.{◌≡◌, ℕ, List, Bool, true, false, refl, sym, ap, ◌∙◌, subst, Option, Some, slice_get, IfSome, arith}
 use Rattle.std.proofs.lemmas.Bool.{eq-eqb}
-use Rattle.blocking_parts.proofs.Types.{Standing, Act, Event, Moment, Party, ByOwner, ByTask, TaskCall, Cancel, Drop, Holds, Held, Core}
-use Rattle.blocking_parts.proofs.Words.{JobNumber, Kind, Over, next_but_wake, has_given_up, holder, is_holder, is_marked, standing, events, acts_of, cut, own, last_session, kind_of_job, kind_by, Turn, turn, IsNumberOf, has_ticket, is_serial_of, HoldsAtRest, IsAsked, LastAs, OwnerAs, Owner, capacity_of, number_in, number_of, Session, Task, Move, Delivers, IsDropped, Calls, Parks, Passes, IsWoken, IsStruck, task_call, call_of, is_pass, May, Parts, party_of, kind_of, is_at_first, CoreAs, PlaceAs, Tied}
+use Rattle.blocking_parts.proofs.Types.{Standing, Act, Event, Moment, Party, ByOwner, ByTask, Step, OfTask, TaskCall, Cancel, Drop, Holds, Held, Core}
+use Rattle.blocking_parts.proofs.Words.{JobNumber, Kind, Over, next_but_wake, has_given_up, holder, is_holder, is_marked, standing, events, acts_of, cut, own, last_session, kind_of_job, kind_by, Turn, turn, IsNumberOf, has_ticket, is_serial_of, HoldsAtRest, IsAsked, LastAs, OwnerAs, Owner, capacity_of, number_in, number_of, Session, Task, Move, Lends, Delivers, IsDropped, Begins, Calls, Parks, Passes, IsWoken, IsStruck, step_by, step_of, task_call, call_of, is_pass, May, Parts, party_of, kind_of, is_at_first, CoreAs, PlaceAs, Tied}
 use Rattle.blocking_laws.specs.Passed.{is_serial}
 use Rattle.blocking_crew.specs.Moves as crew
 use Rattle.blocking_parts.proofs.ties.Jobs.{job_here, held_row, task_holds, task_number, owner_holds, owner_number}
@@ -34,8 +35,8 @@ held_alone past who number same its only s rests = by (is_holder (holder past s)
     by a b holds this = grind arith
 
 -- a call of the crew alone asks nothing
-pass_asked : (w : Parts) (past : List Moment) (call : crew.Call) → is_pass call ≡ true → IsAsked w.crew past call
-pass_asked w past call is = grind arith
+pass_asked : (w : Parts) (past : List Moment) (step : Step) (call : crew.Call) → is_pass call ≡ true → IsAsked w.crew past step call
+pass_asked w past step call is = grind arith
 
 module _ (setting : ℕ) (plan : List Bool) (w : Parts) (past : List Moment) (t : Tied setting plan w past) where
   -- ---- a task, and an owner, that lets go of its job
@@ -77,13 +78,15 @@ module _ (setting : ℕ) (plan : List Bool) (w : Parts) (past : List Moment) (t 
 
   -- ---- each move
 
-  call_asked : (k : ℕ) (call : TaskCall) (task : Task) → slice_get w.tasks k ≡ Some task → IsAsked w.crew past (task_call k call task)
+  call_asked : (k : ℕ) (call : TaskCall) (task : Task) → slice_get w.tasks k ≡ Some task → IsAsked w.crew past (OfTask k call) (task_call k call task)
   call_asked k Cancel task found = (task_number setting plan w past t k task found, task_alone k task found)
   call_asked k Drop task found = (task_number setting plan w past t k task found, task_alone k task found)
   call_asked k _ task found = tt
 
   -- A move keeps what the crew asks of its call.
-  pub asked : (move : Move) → May w move → IsAsked w.crew past (call_of w move)
+  pub asked : (move : Move) → May w move → IsAsked w.crew past (step_of move) (call_of w move)
+  asked (Lends h owner added) may = t.assigned h owner may.0
+  asked (Begins client added) may = refl
   asked (Delivers h owner number) may = owner_number setting plan w past t h owner number may.0 ((t.owned.each h owner may.0).noted number may.1)
   asked (IsDropped h owner) may = (owner_number_if h owner may.0, owner_alone h owner may.0)
   asked (Calls k call task) may = call_asked k call task may.0
@@ -92,7 +95,7 @@ module _ (setting : ℕ) (plan : List Bool) (w : Parts) (past : List Moment) (t 
       let both : Holds job.held ≡ Holds held = sym here.holds ∙ at in
       let same : job.held ≡ held = cc in
       mark_is setting plan w past t v job here ∙ ap (λ (h : Held). is_marked past h.turn.serial) same
-  asked (Passes call) may = pass_asked w past call may.0
+  asked (Passes call) may = pass_asked w past (step_by call) call may.0
   asked (IsWoken s row) may = (t.rowed.each s row may).number
   asked (IsStruck s row) may = (t.rowed.each s row may.0).number
   asked _ may = tt

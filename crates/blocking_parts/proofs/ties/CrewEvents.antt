@@ -24,7 +24,7 @@ by_worker v t s act e told pool nothing = rw (told.act_is, told.party, told.job_
 
 -- what a call of a party has for its event
 abbrev pub ToldBy : crew.Call → Event → Type 0
-ToldBy (crew.Add who added) e = Told who None (added_act added) e
+ToldBy (crew.Add who client added) e = Told who None (added_act added) e
 ToldBy (crew.Wake who number) e = (woke : Woke) × Told who None (JobWoken number.serial woke) e
 ToldBy (crew.Cancel who number) e = (woke : Woke) × Told who None (JobCancelled number.serial woke) e
 ToldBy (crew.LetGo who act number) e = Told who None act e
@@ -38,9 +38,9 @@ pub told : (may_answer : ℕ → Bool → Type 0) (call : crew.Call) (crew_now n
 told may_answer call crew_now new e m = grind (arith, told_move)
 
 -- a new job gets the next serial, and its number is its job's
-pub added_of : (plan : List Bool) (who : Party) (crew_now new : Crew) (e : Event) (number : JobNumber) → crew.Moves (IsPlanned plan) (crew.Add who (Ok number)) crew_now e new
+pub added_of : (plan : List Bool) (who : Party) (client : ℕ) (crew_now new : Crew) (e : Event) (number : JobNumber) → crew.Moves (IsPlanned plan) (crew.Add who client (Ok number)) crew_now e new
     → (number.serial ≡ crew_now.pool.next_serial) × IsNumberOf new.pool number
-added_of plan who crew_now new e number m = grind (arith, number_of_new)
+added_of plan who client crew_now new e number m = grind (arith, number_of_new)
 
 -- ---- acts of a job
 

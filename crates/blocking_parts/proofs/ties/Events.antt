@@ -51,13 +51,13 @@ answer_fits at c answer is = grind arith
 -- What is seen of a move.
 abbrev pub SaidBy : Parts → Move → Event → Type 0
 SaidBy w (Idles step) e = Told (named step) None NoAction e
-SaidBy w (Makes capacity) e = Told (ByOwner (length w.owners)) None (Made (length w.owners) capacity) e
+SaidBy w (Makes capacity client) e = Told (ByOwner (length w.owners)) None (Made (length w.owners) capacity) e
 SaidBy w (Asks step h call owner) e = Told (ByOwner h) None (Asked call) e
 SaidBy w (Owns h owner did) e = Told (ByOwner h) None did.act e
 SaidBy w (Lends h owner added) e = Told (ByOwner h) None (added_act added) e
 SaidBy w (Delivers h owner number) e = (woke : Woke) × Told (ByOwner h) None (JobWoken number.serial woke) e
 SaidBy w (IsDropped h owner) e = Told (ByOwner h) None HolderDropped e
-SaidBy w (Begins added) e = Told Pool None (added_act added) e
+SaidBy w (Begins client added) e = Told Pool None (added_act added) e
 SaidBy w (Calls k call task) e = Told (ByTask k) None (task_act call task) e
 SaidBy w (Works v job did) e = Told (Worker v) (Some job.held.turn.serial) did.act e
 SaidBy w (IsAnswered v job answer) e = Told (Worker v) (Some job.held.turn.serial) (Answered answer) e
@@ -122,7 +122,7 @@ note_is who act note = grind arith
 -- whether no task and no owner has a part in a move, nor the job in a hand
 abbrev pub is_alone : Move → Bool
 is_alone (Idles step) = true
-is_alone (Begins (Err why)) = true
+is_alone (Begins client (Err why)) = true
 is_alone (Parks v job) = true
 is_alone (Passes call) = true
 is_alone (IsWoken s row) = true

@@ -50,9 +50,9 @@ idle_back : (last : Option sessions.Session) (shut : Bool) → sessions.state_in
 idle_back last shut is = grind arith
 
 -- an owner whose session begins has its handle
-begins_idle : (bytes : ℕ) (asked : Option HandleCall) (here : OwnerStage) (last : Option Session) (X : List Event) → OwnerAs (owner_by_parts bytes asked here last) X → next_at here last ≡ next.Begins
+begins_idle : (bytes client : ℕ) (asked : Option HandleCall) (here : OwnerStage) (last : Option Session) (X : List Event) → OwnerAs (owner_by_parts bytes client asked here last) X → next_at here last ≡ next.Begins
     → sessions.state_in (sessions.session (own X)) (sessions.is_shut (own X)) ≡ sessions.Idle
-begins_idle bytes asked here last X t begins = grind arith
+begins_idle bytes client asked here last X t begins = grind arith
 
 -- ---- one act of a job
 
@@ -97,7 +97,7 @@ module _ (setting : ℕ) (plan : List Bool) (w : Parts) (past : List Moment) (t 
   -- a job that isn't over is that of its owner's last session
   is_its_last : (h s : ℕ) (owner : Owner) → slice_get w.owners h ≡ Some owner → holder past s ≡ Some (ByOwner h) → is_over (next_but_wake (kind_of_job s (own (cut h (events past)))) (acts_of s (cut h (events past)))) ≡ false
       → IsLast owner.session s
-  is_its_last h s owner found held goes = its_last owner.capacity owner.asked owner.stage owner.session s (cut h (events past)) (t.owned.each h owner found) (t.owned.begun h s held) goes
+  is_its_last h s owner found held goes = its_last owner.capacity owner.client owner.asked owner.stage owner.session s (cut h (events past)) (t.owned.each h owner found) (t.owned.begun h s held) goes
 
   -- so no session of its owner begins
   none_begins : (h s : ℕ) (owner : Owner) → slice_get w.owners h ≡ Some owner → holder past s ≡ Some (ByOwner h) → is_left past s ≡ true → next_of owner ≡ next.Begins → ⊥
@@ -107,7 +107,7 @@ module _ (setting : ℕ) (plan : List Bool) (w : Parts) (past : List Moment) (t 
       let goes = left_goes h s held left in
       let l = is_its_last h s owner found held goes in
       let lent = still_lent l.session (capacity_of owner) X (subst (λ o. LastAs o (capacity_of owner) X) l.here tie.last) (subst (λ n. is_over (next_but_wake (kind_of_job n (own X)) (acts_of n X)) ≡ false) l.same goes) in
-      let back = idle_back (sessions.session (own X)) (sessions.is_shut (own X)) (begins_idle owner.capacity owner.asked owner.stage owner.session X tie begins) in
+      let back = idle_back (sessions.session (own X)) (sessions.is_shut (own X)) (begins_idle owner.capacity owner.client owner.asked owner.stage owner.session X tie begins) in
       let bad : true ≡ false = sym back ∙ lent in cc
 
   module _ (h s : ℕ) (held : holder past s ≡ Some (ByOwner h)) (left : is_left past s ≡ true) where
@@ -154,7 +154,7 @@ module _ (setting : ℕ) (plan : List Bool) (w : Parts) (past : List Moment) (t 
     -- after each move
     move_met : (move : Move) (e : Event) (new : Parts) → May w move → SaidBy w move e → EachMayFollow (PoolLaw setting plan) (moment new (step_of move) e ∷ past) → is_left (moment new (step_of move) e ∷ past) s ≡ true
         → MetIn (owners_after w move)
-    move_met (Makes capacity) e new may told laws later = pushed_met (new_owner capacity)
+    move_met (Makes capacity client) e new may told laws later = pushed_met (new_owner capacity client)
     move_met (Asks step g call owner) e new may told laws later = set_met g owner _ may.0 (λ same met. asked_met call owner s met)
     move_met (Owns g owner did) e new may told laws later = set_met g owner did.owner may.0 (λ same met. did_met owner s did may.1 met)
     move_met (Lends g owner (Ok number)) e new may told laws later =

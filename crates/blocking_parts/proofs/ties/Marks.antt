@@ -89,7 +89,7 @@ module _ (setting : ℕ) (plan : List Bool) (w : Parts) (past : List Moment) (t 
       new_keeps _ number.serial told.act_is (ap (λ p. may_cancel (Some (newcomer past p)) past) told.party ∙ owner_is_there h owner may.0 may.1)
   keeps_marks (Delivers h owner number) e new may told = told_quiet _ _ told.1.act_is (record { new = λ s. refl; cancelled = λ s. refl; kept = refl })
   keeps_marks (IsDropped h owner) e new may told = drop_keeps _ told.act_is
-  keeps_marks (Begins (Ok number)) e new may told = new_keeps _ number.serial told.act_is (ap (λ p. may_cancel (Some (newcomer past p)) past) told.party ∙ task_is_new)
+  keeps_marks (Begins client (Ok number)) e new may told = new_keeps _ number.serial told.act_is (ap (λ p. may_cancel (Some (newcomer past p)) past) told.party ∙ task_is_new)
   keeps_marks (Calls k call task) e new may told = call_keeps _ k call task told.party told.act_is
   keeps_marks (Works v job done) e new may told = told_quiet _ done.act told.act_is (work_quiet job.held.stage done.act (done_fits done job.held.stage job.row.core w.tasks w.owners may.1))
   keeps_marks (Parks v job) e new may told = told_quiet _ _ told.1.act_is (parked_quiet told.0 job.held.turn.serial)

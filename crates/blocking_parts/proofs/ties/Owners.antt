@@ -113,9 +113,9 @@ module _ (setting : ℕ) (plan : List Bool) (w : Parts) (past : List Moment) (t 
       }) hold
 
   -- a new call
-  begun : (added : Result JobNumber Refusal) → crew.Moves (IsPlanned plan) (crew.Add Pool added) w.crew e new.crew → Told Pool None (added_act added) e → new.owners ≡ w.owners → OwnersHold new.owners (moment new at e ∷ past)
-  begun (Ok number) does told same =
-      let free = ap (holder past) (added_of plan Pool w.crew new.crew e number does).0 ∙ next_free setting plan w past t in
+  begun : (client : ℕ) (added : Result JobNumber Refusal) → crew.Moves (IsPlanned plan) (crew.Add Pool client added) w.crew e new.crew → Told Pool None (added_act added) e → new.owners ≡ w.owners → OwnersHold new.owners (moment new at e ∷ past)
+  begun client (Ok number) does told same =
+      let free = ap (holder past) (added_of plan Pool client w.crew new.crew e number does).0 ∙ next_free setting plan w past t in
       stay
       (subst (IsAside past) (sym (seen_is new Pool None None (Accepted number.serial) e told refl))
       (record {
@@ -125,13 +125,13 @@ module _ (setting : ℕ) (plan : List Bool) (w : Parts) (past : List Moment) (t 
         new = λ s new. ap (holder past) (sym (eqb-true number.serial s new)) ∙ free;
         not_theirs = λ h s new by. absurd cc;
       })) same
-  begun (Err why) does told same = stay (alone_aside past new e (alone w (Begins (Err why)) e refl told)) same
+  begun client (Err why) does told same = stay (alone_aside past new e (alone w (Begins client (Err why)) e refl told)) same
 
   -- a session begins, or is refused
-  lent : (h : ℕ) (owner : Owner) (added : Result JobNumber Refusal) → May w (Lends h owner added) → crew.Moves (IsPlanned plan) (crew.Add (ByOwner h) added) w.crew e new.crew → Told (ByOwner h) None (added_act added) e
+  lent : (h : ℕ) (owner : Owner) (added : Result JobNumber Refusal) → May w (Lends h owner added) → crew.Moves (IsPlanned plan) (crew.Add (ByOwner h) owner.client added) w.crew e new.crew → Told (ByOwner h) None (added_act added) e
       → new.owners ≡ owners_after w (Lends h owner added) → OwnersHold new.owners (moment new at e ∷ past)
   lent h owner (Ok number) may does told is =
-      takes (lanes.Begins number) h 0 0 owner (Accepted number.serial) may.0 tt (ap (holder past) (added_of plan (ByOwner h) w.crew new.crew e number does).0 ∙ next_free setting plan w past t) may.1 refl
+      takes (lanes.Begins number) h 0 0 owner (Accepted number.serial) may.0 tt (ap (holder past) (added_of plan (ByOwner h) owner.client w.crew new.crew e number does).0 ∙ next_free setting plan w past t) may.1 refl
       (seen_is new (ByOwner h) None None (Accepted number.serial) e told refl) is
   lent h owner (Err why) may does told is = takes (lanes.IsRefused why) h 0 0 owner (Refused why) may.0 tt tt may.1 refl (seen_is new (ByOwner h) None None (Refused why) e told refl) is
 
@@ -208,9 +208,9 @@ pub owners_after_move : (setting : ℕ) (plan : List Bool) (w : Parts) (past : L
 owners_after_move setting plan w past t laws move e new may does rows owners = by move may does rows owners (said plan w move e new may does)
   where
     by : (move : Move) → May w move → CrewMoves (IsPlanned plan) move w e new → new.rows ≡ rows_after w move → new.owners ≡ owners_after w move → SaidBy w move e → OwnersHold new.owners (moment new (step_of move) e ∷ past)
-    by (Makes capacity) may does rows is told =
-        subst (λ row. OwnersHold row (moment new (step_of (Makes capacity)) e ∷ past)) (sym is)
-        (born w.owners past (moment new (step_of (Makes capacity)) e) capacity
+    by (Makes capacity client) may does rows is told =
+        subst (λ row. OwnersHold row (moment new (step_of (Makes capacity client)) e ∷ past)) (sym is)
+        (born w.owners past (moment new (step_of (Makes capacity client)) e) capacity client
         (record { first = e.first; growth = record { started = e.started; refused = e.start_refused }; event_is = seen_is new (ByOwner (length w.owners)) None None (Made (length w.owners) capacity) e told refl })
         (record { tied = t.owned; laws = laws }))
     by (Asks step h call owner) may does rows is told =
@@ -224,7 +224,7 @@ owners_after_move setting plan w past t laws move e new may does rows owners = b
         (seen_is new (ByOwner h) None None (JobWoken number.serial told.0) e told.1 refl) is
     by (IsDropped h owner) may does rows is told =
         takes setting plan w past t laws new _ e lanes.IsDropped h 0 0 owner HolderDropped may.0 tt tt may.1 refl (seen_is new (ByOwner h) None None HolderDropped e told refl) is
-    by (Begins added) may does rows is told = begun setting plan w past t laws new _ e added does told is
+    by (Begins client added) may does rows is told = begun setting plan w past t laws new _ e client added does told is
     by (Calls k call task) may does rows is told = stay setting plan w past t laws new _ e (call_aside past new e k call task told) is
     by (Works v job did) may does rows is told = acted setting plan w past t laws new _ e v job did (job_here w v job may.0) may.1 told rows is
     by (IsAnswered v job answer) may does rows is told = answered setting plan w past t laws new _ e v job answer (job_here w v job may.0) may.1 told rows is

@@ -69,13 +69,13 @@ module _ (setting : ℕ) (plan : List Bool) (w : Parts) (past : List Moment) (t 
   stay_alone none same = stay (aside_beside past (seen_in new e) (record { out = none.out; none_new = none.none_new })) same
 
   -- a new call
-  begun : (added : Result JobNumber Refusal) → crew.Moves (IsPlanned plan) (crew.Add Pool added) w.crew e new.crew → Told Pool None (added_act added) e → new.tasks ≡ tasks_after_add w.tasks added
+  begun : (client : ℕ) (added : Result JobNumber Refusal) → crew.Moves (IsPlanned plan) (crew.Add Pool client added) w.crew e new.crew → Told Pool None (added_act added) e → new.tasks ≡ tasks_after_add w.tasks added
       → TasksHold new.tasks (moment new at e ∷ past)
-  begun (Ok number) does told tasks =
-      let free = ap (holder past) (added_of plan Pool w.crew new.crew e number does).0 ∙ next_free setting plan w past t in
+  begun client (Ok number) does told tasks =
+      let free = ap (holder past) (added_of plan Pool client w.crew new.crew e number does).0 ∙ next_free setting plan w past t in
       subst (λ row. TasksHold row (moment new at e ∷ past)) (sym tasks)
       (born w.tasks past (moment new at e) number (record { party_is = told.party; act_is = told.act_is }) free hold)
-  begun (Err why) does told tasks = stay_alone (alone w (Begins (Err why)) e refl told) tasks
+  begun client (Err why) does told tasks = stay_alone (alone w (Begins client (Err why)) e refl told) tasks
 
   -- a task is called
   called : (k : ℕ) (task : Task) (call : TaskCall) → slice_get w.tasks k ≡ Some task → may_be task.stage call ≡ true → Told (ByTask k) None (task_act call task) e
@@ -170,13 +170,13 @@ pub tasks_after_move : (setting : ℕ) (plan : List Bool) (w : Parts) (past : Li
 tasks_after_move setting plan w past t laws move e new may does rows tasks = by move may does rows tasks (said plan w move e new may does)
   where
     by : (move : Move) → May w move → CrewMoves (IsPlanned plan) move w e new → new.rows ≡ rows_after w move → new.tasks ≡ tasks_after w move → SaidBy w move e → TasksHold new.tasks (moment new (step_of move) e ∷ past)
-    by (Makes capacity) may does rows tasks told = stay setting plan w past t laws new _ e (owner_beside past new e (length w.owners) _ told) tasks
+    by (Makes capacity client) may does rows tasks told = stay setting plan w past t laws new _ e (owner_beside past new e (length w.owners) _ told) tasks
     by (Asks step h call owner) may does rows tasks told = stay setting plan w past t laws new _ e (owner_beside past new e h _ told) tasks
     by (Owns h owner did) may does rows tasks told = stay setting plan w past t laws new _ e (owner_beside past new e h _ told) tasks
     by (Lends h owner added) may does rows tasks told = stay setting plan w past t laws new _ e (owner_beside past new e h _ told) tasks
     by (Delivers h owner number) may does rows tasks told = stay setting plan w past t laws new _ e (owner_beside past new e h _ told.1) tasks
     by (IsDropped h owner) may does rows tasks told = stay setting plan w past t laws new _ e (owner_beside past new e h _ told) tasks
-    by (Begins added) may does rows tasks told = begun setting plan w past t laws new _ e added does told tasks
+    by (Begins client added) may does rows tasks told = begun setting plan w past t laws new _ e client added does told tasks
     by (Calls k call task) may does rows tasks told = called setting plan w past t laws new _ e k task call may.0 may.1 told tasks
     by (Works v job did) may does rows tasks told = acted setting plan w past t laws new _ e v job did (job_here w v job may.0) may.1 told rows tasks
     by (IsAnswered v job answer) may does rows tasks told = answered setting plan w past t laws new _ e v job answer (job_here w v job may.0) may.1 told rows tasks

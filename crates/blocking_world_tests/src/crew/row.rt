@@ -75,7 +75,7 @@ const TASK: Party = Party::Task(0);
 
 // Hands in a job, and keeps its number.
 fn add<S: Starter>(crew: &mut Crew, jobs: &mut Vec<JobNo>, starter: &mut S) -> Result<Event, Fail> {
-    let added = crew.add(Party::Pool, starter);
+    let added = crew.add(Party::Pool, 0, starter);
     if let Ok(number) = added.number {
         jobs.push(number)?;
     }

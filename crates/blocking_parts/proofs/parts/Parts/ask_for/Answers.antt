@@ -1,4 +1,4 @@
-use Rattle.std.proofs.Common.{refl, subst, sym, ap, ◌∙◌, ◌≡◌, true, arith, slice_get}
+use Rattle.std.proofs.Common.{refl, subst, sym, ap, ◌∙◌, arith, slice_get}
 use Rattle.blocking_parts.proofs.Types.{Asked, ByOwner}
 use Rattle.blocking_parts.proofs.Words.{NeverAsked, may_ask_in, Parts}
 use Rattle.blocking_crew.specs.Moves as crew

@@ -14,5 +14,5 @@ returns c =
     let begins : next_of old ≡ next.Begins =
     subst (λ o. IfSome o (λ (owner : Owner). next_of owner ≡ next.Begins)) found (subst (λ (p : Parts). IfSome (slice_get p.owners c.args.place) (λ (owner : Owner). next_of owner ≡ next.Begins)) (sym c.self.view_is) c.requires.begins) in
     rw (sym c.self.view_is)
-    (lent NeverAsked w c.args.place old (Err c.refuse-why.result.0) w.rows (slice_set w.owners c.args.place c.refuse.new.self) c.refuse-why.result.1 w.crew found begins c.refuse-why.ensures refl
+    (lent NeverAsked w c.args.place old (Err c.refuse-why.result.0) w.rows (slice_set w.owners c.args.place c.refuse.new.self) c.refuse-why.result.1 w.crew found begins (c.refuse-why.ensures old.client) refl
     (ap (slice_set w.owners c.args.place) c.refuse.ensures))
