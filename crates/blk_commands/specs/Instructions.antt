@@ -7,7 +7,7 @@ use Rattle.blocking_laws.specs.declared.step.Answer.TheVariants.{Number, Gave, F
 use Rattle.blocking_laws.specs.declared.step.HandleCall.{HandleCall}
 use Rattle.blocking_laws.specs.declared.step.HandleCall.TheVariants.{Read, Write, Flush, Close, Seek, Next, Operate, OperateAgain, GetMut, IntoInner}
 use Rattle.blocking_laws.specs.declared.step.Step.{Step}
-use Rattle.blocking_laws.specs.declared.step.Step.TheVariants.{New, Ask, Own, DropOwner, Spawn, OfTask, Arrive, Take, Job, Io, End, Wait, Late, SetLimit, Sweep, Stray, Strike, Link, Copy}
+use Rattle.blocking_laws.specs.declared.step.Step.TheVariants.{New, Ask, Own, DropOwner, Spawn, OfTask, Arrive, Take, Job, Io, End, Wait, Late, SetLimit, SetClientLimit, Sweep, Stray, Strike, Link, Copy}
 use Rattle.blocking_laws.specs.declared.step.TaskCall.{TaskCall}
 use Rattle.blocking_laws.specs.declared.step.TaskCall.TheVariants.{Poll, Cancel, Detach, Drop}
 use Rattle.blk_commands.specs.Bytes.{bytes_of}
@@ -28,15 +28,23 @@ words_of line = slice_split is_space line
 -- what one word asks for
 abbrev pub plain_step : List ℕ → Option Step
 plain_step name =
-    if bytes_eq name (codes "spawn") then Some Spawn
+    if bytes_eq name (codes "spawn") then Some (Spawn 0)
     else (if bytes_eq name (codes "arrive") then Some Arrive
     else (if bytes_eq name (codes "sweep") then Some Sweep
     else None))
 
+-- the client limit that a word says: a number, or none
+abbrev pub client_limit_of : List ℕ → Option (Option ℕ)
+client_limit_of word = if bytes_eq word (codes "none") then Some None else option_map Some (number_of 64 word)
+
+-- the owner whose pipes hold so many bytes, and whose client isn't named
+abbrev pub new_of : ℕ → Step
+new_of capacity = New capacity 0
+
 -- what a word and a number ask for
 abbrev pub numbered_step : List ℕ → List ℕ → Option Step
 numbered_step name word =
-    if bytes_eq name (codes "new") then option_map New (number_of 64 word)
+    if bytes_eq name (codes "new") then option_map new_of (number_of 64 word)
     else (if bytes_eq name (codes "own") then option_map Own (number_of 64 word)
     else (if bytes_eq name (codes "drop") then option_map DropOwner (number_of 64 word)
     else (if bytes_eq name (codes "take") then option_map Take (number_of 64 word)
@@ -45,10 +53,11 @@ numbered_step name word =
     else (if bytes_eq name (codes "wait") then option_map Wait (number_of 64 word)
     else (if bytes_eq name (codes "late") then option_map Late (number_of 64 word)
     else (if bytes_eq name (codes "limit") then option_map SetLimit (number_of 64 word)
+    else (if bytes_eq name (codes "clients") then option_map SetClientLimit (client_limit_of word)
     else (if bytes_eq name (codes "stray") then option_map Stray (number_of 64 word)
     else (if bytes_eq name (codes "strike") then option_map Strike (number_of 64 word)
     else (if bytes_eq name (codes "copy") then option_map Copy (number_of 64 word)
-    else None)))))))))))
+    else None))))))))))))
 
 -- ---- three words
 
@@ -87,13 +96,19 @@ plain_answer kind =
     else (if bytes_eq kind (codes "none") then Some NoItem
     else None)
 
--- what three words ask for: a call of the task or of the owner that the number names, or an answer to its worker's job
+-- the call that is made for the client whom the words name
+abbrev pub spawn_of : List ℕ → List ℕ → Option Step
+spawn_of word client = if bytes_eq word (codes "for") then option_map Spawn (number_of 32 client) else None
+
+-- what three words ask for: a call of the task or of the owner that the number names, an answer to its worker's job, or a call that is made for
+-- a client
 abbrev pub worded_step : List ℕ → List ℕ → List ℕ → Option Step
 worded_step name word what =
     if bytes_eq name (codes "task") then option_and_then (λ k. option_map (OfTask k) (task_call what)) (number_of 64 word)
     else (if bytes_eq name (codes "ask") then option_and_then (λ h. option_map (Ask h) (plain_call what)) (number_of 64 word)
     else (if bytes_eq name (codes "io") then option_and_then (λ w. option_map (Io w) (plain_answer what)) (number_of 64 word)
-    else None))
+    else (if bytes_eq name (codes "spawn") then spawn_of word what
+    else None)))
 
 -- the instruction that three words are: all the actions of an actor, or what the words ask for
 abbrev pub longer_instruction : List ℕ → List ℕ → List ℕ → Option Instruction
@@ -123,13 +138,18 @@ answer_of kind value =
 abbrev pub link_of : ℕ → List ℕ → List ℕ → Option Step
 link_of a writer piece = option_and_then (λ b. option_map (Link a b) (number_of 64 piece)) (number_of 64 writer)
 
--- what four words ask for: a call of an owner, an answer to a worker's job, or a copier that is made
+-- the owner whose pipes hold so many bytes, for the client whom the words name
+abbrev pub owner_of : ℕ → List ℕ → List ℕ → Option Step
+owner_of capacity word client = if bytes_eq word (codes "for") then option_map (New capacity) (number_of 32 client) else None
+
+-- what four words ask for: a call of an owner, an answer to a worker's job, a copier that is made, or an owner for a client
 abbrev pub longer_step : List ℕ → List ℕ → List ℕ → List ℕ → Option Step
 longer_step name word what value =
     if bytes_eq name (codes "ask") then option_and_then (λ h. option_map (Ask h) (longer_call what value)) (number_of 64 word)
     else (if bytes_eq name (codes "io") then option_and_then (λ w. option_map (Io w) (answer_of what value)) (number_of 64 word)
     else (if bytes_eq name (codes "link") then option_and_then (λ a. link_of a what value) (number_of 64 word)
-    else None))
+    else (if bytes_eq name (codes "new") then option_and_then (λ capacity. owner_of capacity what value) (number_of 64 word)
+    else None)))
 
 -- ---- all words
 

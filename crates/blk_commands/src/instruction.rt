@@ -1,9 +1,9 @@
 //! The instructions that words are.
 ghost use Rattle.std.specs.Prelude.{◌≡◌, IfOk, map};
-ghost use Rattle.blk_commands.specs.Instructions.{actor_named, answer_of, instruction_of, link_of, longer_call, longer_instruction, longer_step, numbered_step, plain_answer, plain_call, plain_step, task_call, worded_step, words_of};
+ghost use Rattle.blk_commands.specs.Instructions.{actor_named, answer_of, client_limit_of, instruction_of, link_of, longer_call, longer_instruction, longer_step, new_of, numbered_step, owner_of, plain_answer, plain_call, plain_step, spawn_of, task_call, worded_step, words_of};
 
 use crate::bytes::bytes_of;
-use crate::number::{count, number};
+use crate::number::{count, number, small_number};
 use crate::position::position_of;
 use blocking_laws::HandleCall;
 use blocking_world::{Answer, Step, TaskCall};
@@ -58,7 +58,7 @@ fn plain_step(name: &str) -> Option<Step>
     ensures { result ≡ plain_step name.now }
 {
     match name {
-        "spawn" => Some(Step::Spawn),
+        "spawn" => Some(Step::Spawn(0)),
         "arrive" => Some(Step::Arrive),
         "sweep" => Some(Step::Sweep),
         _ => None,
@@ -70,7 +70,7 @@ fn numbered_step(name: &str, word: &str) -> Option<Step>
     ensures { result ≡ numbered_step name.now word.now }
 {
     match name {
-        "new" => count(word).map(Step::New),
+        "new" => Some(new_of(count(word)?)),
         "own" => count(word).map(Step::Own),
         "drop" => count(word).map(Step::DropOwner),
         "take" => count(word).map(Step::Take),
@@ -79,11 +79,29 @@ fn numbered_step(name: &str, word: &str) -> Option<Step>
         "wait" => count(word).map(Step::Wait),
         "late" => count(word).map(Step::Late),
         "limit" => count(word).map(Step::SetLimit),
+        "clients" => client_limit_of(word).map(Step::SetClientLimit),
         "stray" => number(word).map(Step::Stray),
         "strike" => number(word).map(Step::Strike),
         "copy" => count(word).map(Step::Copy),
         _ => None,
     }
+}
+
+// The owner whose pipes hold so many bytes, and whose client isn't named.
+fn new_of(capacity: usize) -> Step
+    ensures { result ≡ new_of capacity }
+{
+    Step::New(capacity, 0)
+}
+
+// The client limit that a word says: a number, or none.
+fn client_limit_of(word: &str) -> Option<Option<usize>>
+    ensures { result ≡ client_limit_of word.now }
+{
+    if word == "none" {
+        return Some(None);
+    }
+    count(word).map(Some)
 }
 
 // The instruction that three words are: all the actions of an actor, or what the words ask for.
@@ -107,7 +125,8 @@ fn actor_named(name: &str, word: &str) -> Option<Actor>
     }
 }
 
-// The step that three words ask for: a call of the task or the owner of this number, or an answer to this worker's job.
+// The step that three words ask for: a call of the task or the owner of this number, an answer to this worker's job, or a call that is made for a
+// client.
 fn worded_step(name: &str, word: &str, what: &str) -> Option<Step>
     ensures { result ≡ worded_step name.now word.now what.now }
 {
@@ -115,8 +134,19 @@ fn worded_step(name: &str, word: &str, what: &str) -> Option<Step>
         "task" => Some(Step::OfTask(count(word)?, task_call(what)?)),
         "ask" => Some(Step::Ask(count(word)?, plain_call(what)?)),
         "io" => Some(Step::Io(count(word)?, plain_answer(what)?)),
+        "spawn" => spawn_of(word, what),
         _ => None,
     }
+}
+
+// The call that is made for the client whom the words name.
+fn spawn_of(word: &str, client: &str) -> Option<Step>
+    ensures { result ≡ spawn_of word.now client.now }
+{
+    if word != "for" {
+        return None;
+    }
+    small_number(client).map(Step::Spawn)
 }
 
 // The call of a task that has this name.
@@ -159,7 +189,7 @@ fn plain_answer(kind: &str) -> Option<Answer>
     }
 }
 
-// The step that four words ask for: a call of an owner, an answer to a worker's job, or a copier that is made.
+// The step that four words ask for: a call of an owner, an answer to a worker's job, a copier that is made, or an owner for a client.
 fn longer_step(
     alloc: Global,
     name: &str,
@@ -182,6 +212,7 @@ fn longer_step(
             Ok(answer.map(|answer| Step::Io(party, answer)))
         }
         "link" => Ok(link_of(party, what, value)),
+        "new" => Ok(owner_of(party, what, value)),
         _ => Ok(None),
     }
 }
@@ -191,6 +222,16 @@ fn link_of(reader: usize, writer: &str, piece: &str) -> Option<Step>
     ensures { result ≡ link_of reader writer.now piece.now }
 {
     Some(Step::Link(reader, count(writer)?, count(piece)?))
+}
+
+// The owner whose pipes hold so many bytes, for the client whom the words name.
+fn owner_of(capacity: usize, word: &str, client: &str) -> Option<Step>
+    ensures { result ≡ owner_of capacity word.now client.now }
+{
+    if word != "for" {
+        return None;
+    }
+    Some(Step::New(capacity, small_number(client)?))
 }
 
 // The call of an owner that two words ask for.
