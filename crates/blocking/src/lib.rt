@@ -25,31 +25,105 @@
 mod jobs;
 
 pub use blocking_core::io::Fault;
-pub use blocking_core::limit::{
-    DEFAULT_MAX_THREADS, MAX_MAX_THREADS, MAX_THREADS_ENV, MIN_MAX_THREADS, max_threads,
-};
-pub use blocking_core::pipe::{
-    CopyStore, FlatMemory, FlatStore, LendingMemory, LendingStore, RingMemory, RingStore, Store,
-};
-pub use blocking_core::pool::{
-    Carries, Job, JobNo, JobStep, Refusal, Refused, StartRefused, Starter, WakeNote,
-};
-pub use blocking_core::task::{Call, CallOn};
-pub use blocking_core::{pipe, pool};
-pub use blocking_ends::{
-    AnyPlace, Closed, DrainEnd, FillEnd, ItemRecvEnd, ItemSendEnd, ItemSending, JobSeated,
-    OwnerWaker, PeekEnd, PieceMemory, PlaceRule, RecvEnd, SeenEnd, SeenShut, SendEnd, ToldEnd,
-    WhyUnsent, link, link_drain, link_in, link_in_over, link_items, link_over, unlink_drain,
-    unlink_in,
-};
-pub use blocking_executor::{
-    CallJob, Cancel, Counts, Ended, Executor, Held, Host, Runtime, Task, ThreadStarter, job,
-    set_max_blocking_threads, task, unblock,
-};
-pub use blocking_io::{
-    AsyncRead, AsyncReadExt, AsyncSeek, AsyncSeekExt, AsyncWrite, AsyncWriteExt, Close, Copier,
-    CopyFault, Flush, IoFault, ReadExact, ReadSome, ReadToEnd, SeekTo, WriteAll, WriteSome,
-};
-pub use blocking_jobs::{ItemJob, OpJob, ReadJob, SeekJob, WriteJob};
-pub use blocking_unblock::{IntoInner, Unblock, WithMut};
-pub use jobs::{CallFileJobs, CopyJobs, FileJobs, Items, Jobs, Reader, Unused, Writer};
+pub use blocking_core::limit::DEFAULT_MAX_THREADS;
+pub use blocking_core::limit::MAX_MAX_THREADS;
+pub use blocking_core::limit::MAX_THREADS_ENV;
+pub use blocking_core::limit::MIN_MAX_THREADS;
+pub use blocking_core::limit::max_threads;
+pub use blocking_core::pipe;
+pub use blocking_core::pipe::CopyStore;
+pub use blocking_core::pipe::FlatMemory;
+pub use blocking_core::pipe::FlatStore;
+pub use blocking_core::pipe::LendingMemory;
+pub use blocking_core::pipe::LendingStore;
+pub use blocking_core::pipe::RingMemory;
+pub use blocking_core::pipe::RingStore;
+pub use blocking_core::pipe::Store;
+pub use blocking_core::pool;
+pub use blocking_core::pool::Carries;
+pub use blocking_core::pool::Job;
+pub use blocking_core::pool::JobNo;
+pub use blocking_core::pool::JobStep;
+pub use blocking_core::pool::Refusal;
+pub use blocking_core::pool::Refused;
+pub use blocking_core::pool::StartRefused;
+pub use blocking_core::pool::Starter;
+pub use blocking_core::pool::WakeNote;
+pub use blocking_core::task::Call;
+pub use blocking_core::task::CallOn;
+pub use blocking_ends::AnyPlace;
+pub use blocking_ends::Closed;
+pub use blocking_ends::DrainEnd;
+pub use blocking_ends::FillEnd;
+pub use blocking_ends::ItemRecvEnd;
+pub use blocking_ends::ItemSendEnd;
+pub use blocking_ends::ItemSending;
+pub use blocking_ends::JobSeated;
+pub use blocking_ends::OwnerWaker;
+pub use blocking_ends::PeekEnd;
+pub use blocking_ends::PieceMemory;
+pub use blocking_ends::PlaceRule;
+pub use blocking_ends::RecvEnd;
+pub use blocking_ends::SeenEnd;
+pub use blocking_ends::SeenShut;
+pub use blocking_ends::SendEnd;
+pub use blocking_ends::ToldEnd;
+pub use blocking_ends::WhyUnsent;
+pub use blocking_ends::link;
+pub use blocking_ends::link_drain;
+pub use blocking_ends::link_in;
+pub use blocking_ends::link_in_over;
+pub use blocking_ends::link_items;
+pub use blocking_ends::link_over;
+pub use blocking_ends::unlink_drain;
+pub use blocking_ends::unlink_in;
+pub use blocking_executor::CallJob;
+pub use blocking_executor::Cancel;
+pub use blocking_executor::Counts;
+pub use blocking_executor::Ended;
+pub use blocking_executor::Entered;
+pub use blocking_executor::Executor;
+pub use blocking_executor::Held;
+pub use blocking_executor::Host;
+pub use blocking_executor::Runtime;
+pub use blocking_executor::Task;
+pub use blocking_executor::ThreadStarter;
+pub use blocking_executor::job;
+pub use blocking_executor::set_client_limit;
+pub use blocking_executor::set_max_blocking_threads;
+pub use blocking_executor::task;
+pub use blocking_executor::unblock;
+pub use blocking_executor::unblock_for;
+pub use blocking_io::AsyncRead;
+pub use blocking_io::AsyncReadExt;
+pub use blocking_io::AsyncSeek;
+pub use blocking_io::AsyncSeekExt;
+pub use blocking_io::AsyncWrite;
+pub use blocking_io::AsyncWriteExt;
+pub use blocking_io::Close;
+pub use blocking_io::Copier;
+pub use blocking_io::CopyFault;
+pub use blocking_io::Flush;
+pub use blocking_io::IoFault;
+pub use blocking_io::ReadExact;
+pub use blocking_io::ReadSome;
+pub use blocking_io::ReadToEnd;
+pub use blocking_io::SeekTo;
+pub use blocking_io::WriteAll;
+pub use blocking_io::WriteSome;
+pub use blocking_jobs::ItemJob;
+pub use blocking_jobs::OpJob;
+pub use blocking_jobs::ReadJob;
+pub use blocking_jobs::SeekJob;
+pub use blocking_jobs::WriteJob;
+pub use blocking_unblock::IntoInner;
+pub use blocking_unblock::Unblock;
+pub use blocking_unblock::WithMut;
+pub use jobs::CallFileJobs;
+pub use jobs::CopyJobs;
+pub use jobs::FileJobs;
+pub use jobs::Items;
+pub use jobs::Jobs;
+pub use jobs::Reader;
+pub use jobs::Unused;
+pub use jobs::Writer;

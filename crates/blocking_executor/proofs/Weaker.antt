@@ -27,7 +27,6 @@ module _ (asking : Asking) (later : ℕ → Bool → Type 0) (steady : Narrows a
         → TakesFront may_mark asking old number value to_drop new
     front_weaker number value to_drop takes =
         record {
-          rest = takes.rest;
           front = takes.front;
           job = takes.job;
           found = takes.found;

@@ -1,11 +1,12 @@
 -- What each section under the pool's lock does: one call of the pool, or two where a worker takes right away, and then the
 -- bell is asked.
-use Rattle.std.specs.Prelude.{◌≡◌, ◌≤◌, ◌+◌, ℕ, Bool, false, nat_lt, Option, Some, None, Result, List, length}
+use Rattle.std.specs.Prelude.{◌≡◌, ◌≤◌, ◌+◌, ℕ, Bool, false, nat_lt, Option, Some, None, Result, Ok, Err, List, length}
 use Rattle.std.specs.Borrow.{Bor}
 use Rattle.blocking_pool.specs.Jobs.{JobNumber, running_below}
 use Rattle.blocking_pool.specs.Counts.{after_limit, after_bell}
 use Rattle.blocking_pool.specs.Growth.{Asking, RefusesNone}
 use Rattle.blocking_pool.specs.Pools.{Pool}
+use Rattle.blocking_pool.specs.Pools as pools
 use Rattle.blocking_pool.specs.PoolAnswers as pool
 use Rattle.blocking_pool.specs.declared.pool.bell.BellKind.{BellKind}
 use Rattle.blocking_pool.specs.declared.pool.answer.Refused.{Refused}
@@ -17,6 +18,7 @@ use Rattle.blocking_pool.specs.declared.pool.answer.Waited.TheVariants.{Stay, St
 use Rattle.blocking_pool.specs.declared.pool.token.WorkerPass.{WorkerPass}
 use Rattle.blocking_executor.specs.declared.counts.Counts.{Counts}
 use Rattle.blocking_executor.specs.declared.held.Ended.{Ended}
+use Rattle.blocking_executor.specs.declared.held.Entered.{Entered}
 use Rattle.blocking_executor.specs.declared.held.Ended.TheVariants as ended
 
 -- whether so many workers are more than a limit that stands
@@ -44,10 +46,15 @@ module _ {J : Type 0} where
   abbrev pub Starts : Option (Bor (List ℕ)) → Pool J → Type 0
   Starts setting new = new ≡ pool.pool_of setting 1 1
 
-  -- a job is added
-  abbrev pub Adds : Asking → Pool J → J → Result JobNumber (Refused J) → Pool J → BellKind → Type 0
-  Adds asking old job answer new bell =
-      (added : Pool J) × pool.Adds asking old job answer added × Rings added bell new
+  -- a job of a client is added
+  abbrev pub Adds : Asking → Pool J → ℕ → J → Result JobNumber (Refused J) → Pool J → BellKind → Type 0
+  Adds asking old client job answer new bell =
+      (added : Pool J) × pool.Adds asking old client job answer added × Rings added bell new
+
+  -- a job is added, and what tells that it entered names its client
+  abbrev pub AddsFor : Asking → Pool J → ℕ → J → Result Entered (Refused J) → Pool J → BellKind → Type 0
+  AddsFor asking old client job (Ok entered) new bell = Adds asking old client job (Ok entered.number) new bell × (entered.client ≡ client)
+  AddsFor asking old client job (Err refused) new bell = Adds asking old client job (Err refused) new bell
 
   -- a wake reaches its job
   abbrev pub Wakes : Asking → Pool J → JobNumber → Woke → Pool J → BellKind → Type 0
@@ -86,3 +93,7 @@ module _ {J : Type 0} where
   -- the limit is set
   abbrev pub SetsLimit : ℕ → Pool J → Pool J → BellKind → Type 0
   SetsLimit limit old new bell = Rings (record old { counts = after_limit limit old.counts }) bell new
+
+  -- the limit of running jobs for each client is set, or let go
+  abbrev pub SetsClientLimit : Option ℕ → Pool J → Pool J → BellKind → Type 0
+  SetsClientLimit limit old new bell = (set : Pool J) × pools.SetsClientLimit limit old set × Rings set bell new

@@ -1,14 +1,14 @@
 //! The executor: a pool that threads share, the workers that serve it, and the spawner that starts them.
-ghost use Rattle.std.specs.Prelude.{◌≡◌, ◌<◌, ◌≤◌, ◌+◌, IfErr};
+ghost use Rattle.std.specs.Prelude.{◌≡◌, ◌<◌, ◌≤◌, ◌+◌, IfErr, IfOk, IfSome};
 
 use crate::counts::Counts;
 use crate::desk::{Desk, ThreadStarter};
-use crate::held::{Ended, Held};
+use crate::held::{Ended, Entered, Held};
 use crate::lookout::Lookout;
 use crate::runtime::Runtime;
 use blocking_core::pool::{
-    Bell, BellKind, Finish, Job, JobNo, JobStep, Refusal, Refused, Starter, Took, Turn, WakeNote,
-    Woke, WorkerPass,
+    Bell, BellKind, Finish, Job, JobStep, Refusal, Refused, Starter, Took, Turn, WakeNote, Woke,
+    WorkerPass,
 };
 use std::alloc::AllocError;
 use std::io;
@@ -29,9 +29,13 @@ struct Shared<J: Job> {
 }
 
 /// A pool of worker threads, shared by whoever has a share of it. Its spawner lives as long as the process.
+///
+/// A share adds its jobs for one client: for client 0, unless [`for_client`](Executor::for_client) names another. Clients matter where
+/// [`set_client_limit`] set a limit of running jobs for each.
 #[derive(Drop)]
 pub struct Executor<J: Job, H: Runtime> {
     shared: Arc<Shared<J>>,
+    client: u32,
     rt: H,
 }
 
@@ -44,7 +48,9 @@ impl<J: Job + Send + 'static, H: Runtime + Threads + Send + Sync + 'static> Exec
     /// read here.
     ///
     /// `Memory` where there was none for the shared state, and `NoWorker` where the spawner's thread couldn't be had.
-    pub fn new(rt: H, setting: Option<&str>) -> Result<Executor<J, H>, Refusal> {
+    pub fn new(rt: H, setting: Option<&str>) -> Result<Executor<J, H>, Refusal>
+        ensures { IfOk result (λ executor. executor.client ≡ 0) }
+    {
         let alloc = rt.alloc();
         let shared = Shared {
             held: Mutex::new(Held::new(alloc, setting)),
@@ -55,7 +61,11 @@ impl<J: Job + Send + 'static, H: Runtime + Threads + Send + Sync + 'static> Exec
         let Ok(shared) = Arc::new(alloc, shared) else {
             return Err(Refusal::Memory);
         };
-        let executor = Executor { shared, rt };
+        let executor = Executor {
+            shared,
+            client: 0,
+            rt,
+        };
         let Ok(theirs) = executor.try_clone() else {
             return Err(Refusal::Memory);
         };
@@ -105,12 +115,33 @@ impl<J: Job + Send + 'static, H: Runtime + Threads + Send + Sync + 'static> Exec
 }
 
 impl<J: Job, H: Runtime> Executor<J, H> {
-    /// One more share of the same pool.
-    pub fn try_clone(&self) -> Result<Executor<J, H>, AllocError> {
+    /// One more share of the same pool, for the same client.
+    pub fn try_clone(&self) -> Result<Executor<J, H>, AllocError>
+        ensures { IfOk result (λ share. share.client ≡ self.now.client) }
+    {
         Ok(Executor {
             shared: Arc::try_clone(&self.shared)?,
+            client: self.client,
             rt: self.rt,
         })
+    }
+
+    /// This share, for another client: the jobs that it adds from now on are that client's.
+    pub fn for_client(self, client: u32) -> Executor<J, H>
+        ensures { result ≡ record self { client = client } }
+    {
+        Executor {
+            shared: self.shared,
+            client,
+            rt: self.rt,
+        }
+    }
+
+    /// The client for which this share adds its jobs.
+    pub fn client(&self) -> u32
+        ensures { result ≡ self.now.client }
+    {
+        self.client
     }
 
     /// The handles that its polls and workers use.
@@ -134,7 +165,7 @@ impl<J: Job, H: Runtime> Executor<J, H> {
             BellKind::Silent | BellKind::All => None,
         };
         // schedule: Tell
-        self.shared.lookout.tell(held.is_queued());
+        self.shared.lookout.tell(held.is_ready());
         // schedule: LetGo
         drop(held);
         match (bell.kind(), claimed) {
@@ -149,14 +180,23 @@ impl<J: Job, H: Runtime> Executor<J, H> {
         ThreadStarter::new(&self.shared.desk, self.rt)
     }
 
-    /// Adds a job, as [`Pool::add`](blocking_core::pool::Pool::add): a refused job is handed back.
-    pub fn add(&self, job: J) -> Result<JobNo, Refused<J>>
-        ensures { IfErr result (λ refused. refused.back ≡ job) }
+    /// Adds a job of this share's client, as [`add_for`](Executor::add_for) does.
+    pub fn add(&self, job: J) -> Result<Entered, Refused<J>>
+        ensures refused { IfErr result (λ refused. refused.back ≡ job) }
+        ensures client { IfOk result (λ entered. entered.client ≡ self.now.client) }
+    {
+        self.add_for(self.client, job)
+    }
+
+    /// Adds a job of a client, as [`Pool::add_for`](blocking_core::pool::Pool::add_for): a refused job is handed back.
+    pub fn add_for(&self, client: u32, job: J) -> Result<Entered, Refused<J>>
+        ensures refused { IfErr result (λ refused. refused.back ≡ job) }
+        ensures client { IfOk result (λ entered. entered.client ≡ client) }
     {
         let mut starter = self.starter();
         // schedule: Add, or Nothing
         let mut held = self.enter();
-        let (answer, bell) = held.add(job, &mut starter);
+        let (answer, bell) = held.add_for(client, job, &mut starter);
         self.leave(held, bell);
         answer
     }
@@ -248,7 +288,7 @@ impl<J: Job, H: Runtime> Executor<J, H> {
     }
 
     // Looks for a job, waits for one or a timeout, and takes or stops. A worker sleeps only where it saw under the same lock that
-    // no job is queued and that it need not stop: who told of that before would have notified nobody.
+    // no job is ready and that it need not stop: who told of that before would have notified nobody.
     fn wait<S: Starter>(&self, pass: WorkerPass, starter: &mut S) -> Option<Took<J>> {
         let rt = self.rt;
         self.shared.lookout.look();
@@ -256,7 +296,7 @@ impl<J: Job, H: Runtime> Executor<J, H> {
             // schedule: Wait (to sleep is a part of it)
             let mut held = self.enter();
             let mut timed_out = false;
-            if !held.is_queued() && !held.is_over_limit() {
+            if !held.is_ready() && !held.is_over_limit() {
                 let idle = Duration::from_millis(IDLE_MILLIS);
                 // schedule: TimeOut, WakeUp, Return
                 let (woken, waited) = self.shared.condvar.wait_timeout(&rt, held, idle);
@@ -293,5 +333,20 @@ pub fn set_max_blocking_threads<J: Job, H: Runtime>(executor: &Executor<J, H>, t
     // schedule: SetLimit
     let mut held = executor.enter();
     let bell = held.set_limit(threads);
+    executor.leave(held, bell);
+}
+
+/// Sets the limit of running jobs for each client, as it is: none, or a number above 0. It holds for jobs that are taken from now on. A lowered
+/// limit stops no running job, and its client's next one waits until fewer run than it says. All idle workers are notified where the limit was raised or
+/// let go.
+///
+/// A job's client is the one that [`unblock_for`](crate::unblock_for) or [`add_for`](Executor::add_for) names, else that of the share which added it: 0, unless
+/// [`for_client`](Executor::for_client) named another.
+pub fn set_client_limit<J: Job, H: Runtime>(executor: &Executor<J, H>, limit: Option<usize>)
+    requires { IfSome limit (λ most. 0 < most) }
+{
+    // schedule: SetLimit, or Nothing
+    let mut held = executor.enter();
+    let bell = held.set_client_limit(limit);
     executor.leave(held, bell);
 }

@@ -1,5 +1,5 @@
 //! The pool as its lock holds it: each section is one call, which answers whom to notify.
-ghost use Rattle.std.specs.Prelude.{◌≡◌, ◌<◌, ◌↔◌, true, length};
+ghost use Rattle.std.specs.Prelude.{◌≡◌, ◌<◌, ◌↔◌, true, length, IfSome};
 ghost use Rattle.blocking_pool.specs.declared.pool.bell.BellKind.TheVariants.{Silent};
 
 use crate::counts::Counts;
@@ -17,6 +17,29 @@ pub struct Held<J: Job> {
     ghost silent: { pool.counts.bell ≡ Silent },
 }
 
+/// A job that has entered a pool: its number, and the client that it entered for. [`Held::add_for`] alone makes one.
+#[derive(Clone, Copy)]
+pub struct Entered {
+    number: JobNo,
+    client: u32,
+}
+
+impl Entered {
+    /// The job's number.
+    pub fn number(self) -> JobNo
+        ensures { result ≡ self.number }
+    {
+        self.number
+    }
+
+    /// The job's client.
+    pub fn client(self) -> u32
+        ensures { result ≡ self.client }
+    {
+        self.client
+    }
+}
+
 /// What a worker has after the end of a turn.
 pub enum Ended<J> {
     /// What it took next.
@@ -29,9 +52,9 @@ pub enum Ended<J> {
 
 impl<J: Job> Held<J> {
     ghost use Rattle.blocking_pool.specs.Jobs.{HaveValues};
-    ghost use Rattle.blocking_pool.specs.Pools.{IsSound};
+    ghost use Rattle.blocking_pool.specs.Pools.{IsSound, ready};
     ghost use Rattle.blocking_pool.specs.Starters.{asked};
-    ghost use Rattle.blocking_executor.specs.Sections.{Adds, Starts, Wakes, Sweeps, ArrivesAndTakes, EndsAndTakes, WaitsAndTakes, SetsLimit, AreCountsOf, is_over};
+    ghost use Rattle.blocking_executor.specs.Sections.{Adds, AddsFor, Starts, Wakes, Sweeps, ArrivesAndTakes, EndsAndTakes, WaitsAndTakes, SetsLimit, SetsClientLimit, AreCountsOf, is_over};
 
     /// A pool with no job and no worker, as [`Pool::new`]. Takes no memory.
     pub fn new(alloc: Global, setting: Option<&str>) -> Held<J>
@@ -42,13 +65,32 @@ impl<J: Job> Held<J> {
         }
     }
 
-    /// Adds a job, as [`Pool::add`]: a refused job is handed back.
+    /// Adds a job of client 0, as [`Pool::add`]: a refused job is handed back.
     pub fn add<S: Starter>(&mut self, job: J, starter: &mut S) -> (Result<JobNo, Refused<J>>, Bell)
         ensures { Adds (asked S.Starter starter.old starter.new)
-            self.old.pool job result.0 self.new.pool result.1 }
+            self.old.pool 0 job result.0 self.new.pool result.1 }
     {
-        let answer = self.pool.add(job, starter);
-        (answer, self.pool.bell())
+        let (answer, bell) = self.add_for(0, job, starter);
+        match answer {
+            Ok(entered) => (Ok(entered.number), bell),
+            Err(refused) => (Err(refused), bell),
+        }
+    }
+
+    /// Adds a job of a client, as [`Pool::add_for`]: a refused job is handed back.
+    pub fn add_for<S: Starter>(
+        &mut self,
+        client: u32,
+        job: J,
+        starter: &mut S,
+    ) -> (Result<Entered, Refused<J>>, Bell)
+        ensures { AddsFor (asked S.Starter starter.old starter.new)
+            self.old.pool client job result.0 self.new.pool result.1 }
+    {
+        match self.pool.add_for(client, job, starter) {
+            Ok(number) => (Ok(Entered { number, client }), self.pool.bell()),
+            Err(refused) => (Err(refused), self.pool.bell()),
+        }
     }
 
     /// A wake reaches its job, as [`Pool::wake`].
@@ -108,11 +150,11 @@ impl<J: Job> Held<J> {
         self.pool.arriving_count() < self.pool.idle_count()
     }
 
-    /// Whether a job is queued.
-    pub fn is_queued(&self) -> bool
-        ensures { (result ≡ true) ↔ (0 < length self.now.pool.queue) }
+    /// Whether a job is ready: a worker that takes now gets one.
+    pub fn is_ready(&self) -> bool
+        ensures { (result ≡ true) ↔ (0 < length (ready self.now.pool)) }
     {
-        self.pool.queue_len() > 0
+        self.pool.ready_len() > 0
     }
 
     /// The workers and jobs of this section. Each queued job stands in the queue once, and nothing else does; the pool has a job's value exactly
@@ -169,6 +211,15 @@ impl<J: Job> Held<J> {
         ensures { SetsLimit limit self.old.pool self.new.pool result }
     {
         self.pool.set_limit(limit);
+        self.pool.bell()
+    }
+
+    /// Sets the limit of running jobs for each client, or lets it go.
+    pub fn set_client_limit(&mut self, limit: Option<usize>) -> Bell
+        requires { IfSome limit (λ most. 0 < most) }
+        ensures { SetsClientLimit limit self.old.pool self.new.pool result }
+    {
+        self.pool.set_client_limit(limit);
         self.pool.bell()
     }
 }

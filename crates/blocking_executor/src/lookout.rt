@@ -14,8 +14,8 @@ const LOOKS: u32 = 10;
 pub(crate) struct Lookout {
     // Whether there is a worker that looks and that nobody has claimed.
     is_manned: AtomicBool,
-    // Whether a job was queued when the last section ended.
-    is_queued: AtomicBool,
+    // Whether a job was ready when the last section ended.
+    is_ready: AtomicBool,
 }
 
 /// The worker that looked, claimed for one ring. The lookout alone makes one.
@@ -28,20 +28,20 @@ impl Lookout {
     pub(crate) fn new() -> Lookout {
         Lookout {
             is_manned: AtomicBool::new(false),
-            is_queued: AtomicBool::new(false),
+            is_ready: AtomicBool::new(false),
         }
     }
 
-    /// Tells whoever looks whether a job is queued. To be called under the pool's lock.
-    pub(crate) fn tell(&self, is_queued: bool) {
+    /// Tells whoever looks whether a job is ready. To be called under the pool's lock.
+    pub(crate) fn tell(&self, is_ready: bool) {
         // (a write takes the line from those that read it)
-        if self.is_queued.load(Ordering::Relaxed) != is_queued {
-            self.is_queued.store(is_queued, Ordering::Relaxed);
+        if self.is_ready.load(Ordering::Relaxed) != is_ready {
+            self.is_ready.store(is_ready, Ordering::Relaxed);
         }
     }
 
     /// Claims the worker that looks, if there is one that nobody has claimed. To be called under the pool's lock, which that worker
-    /// takes later: it finds what the section has queued, or somebody else has taken it.
+    /// takes later: it finds what the section made ready, or somebody else has taken it.
     pub(crate) fn claim(&self) -> Option<Claimed> {
         if self.is_manned.load(Ordering::SeqCst) && self.is_manned.swap(false, Ordering::SeqCst) {
             Some(Claimed(()))
@@ -57,7 +57,7 @@ impl Lookout {
             return;
         }
         for _ in 0..LOOKS {
-            if self.is_queued.load(Ordering::Relaxed) {
+            if self.is_ready.load(Ordering::Relaxed) {
                 break;
             }
             yield_now();

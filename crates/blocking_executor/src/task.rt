@@ -2,10 +2,11 @@
 ghost use Rattle.std.specs.Prelude.{◌≡◌, true, false, IfErr, IfOk};
 
 use crate::executor::Executor;
+use crate::held::Entered;
 use crate::job::CallJob;
 use crate::runtime::Runtime;
 use crate::slot::{AnswerOf, Link};
-use blocking_core::pool::{Carries, Job, JobNo, Refusal, Refused};
+use blocking_core::pool::{Carries, Job, Refusal, Refused};
 use blocking_core::task::{Call, Looked, OfSlot, Over, Seat, Slotted};
 use blocking_lock::Found;
 use futures::Future;
@@ -24,11 +25,12 @@ enum Asked {
 /// A call under way: a future of its answer. Until the answer was taken it may be polled.
 ///
 /// Dropping it gives the call up: a call that wasn't begun by then need not be made, and one that runs goes on, with an answer
-/// that nobody gets. A drop waits for no call. [`detach`](Task::detach) lets the call go on without an owner. A task
+/// that nobody gets. A call that was given up goes when a worker takes it, which where its client is at its limit of running jobs is once another job of
+/// that client is over. A drop waits for no call. [`detach`](Task::detach) lets the call go on without an owner. A task
 /// whose job was dropped by somebody else stays pending.
 pub struct Task<F: Call<Out: Drop>, H: Wait + Copy> {
-    // (the number of its job: who has none has added none)
-    job: JobNo,
+    // (who has none has added none)
+    job: Entered,
     link: Arc<Link<F>>,
     source: Source,
     // What the slot answered to the last poll that waits.
@@ -40,8 +42,9 @@ pub struct Task<F: Call<Out: Drop>, H: Wait + Copy> {
 }
 
 impl<F: Call<Out: Drop>, H: Wait + Copy> Task<F, H> {
-    pub(crate) fn new(rt: H, link: Arc<Link<F>>, job: JobNo) -> Task<F, H>
-        ensures { result.is_taken ≡ false }
+    pub(crate) fn new(rt: H, link: Arc<Link<F>>, job: Entered) -> Task<F, H>
+        ensures fresh { result.is_taken ≡ false }
+        ensures job { result.job ≡ job }
     {
         Task {
             job,
@@ -286,7 +289,7 @@ impl<F: Call<Out: Drop>, H: Wait + Copy> Future for Cancel<F, H> {
     }
 }
 
-/// Runs a call on the executor's pool. Its memory is had before it enters.
+/// Runs a call on the executor's pool, for the client of this share. Its memory is had before it enters.
 ///
 /// A refused call is handed back, and nothing of it is left in the pool.
 pub fn unblock<F: Call<Out: Drop> + Drop, J: Job + Carries<CallJob<F, H>>, H: Runtime>(
@@ -295,6 +298,21 @@ pub fn unblock<F: Call<Out: Drop> + Drop, J: Job + Carries<CallJob<F, H>>, H: Ru
 ) -> Result<Task<F, H>, Refused<F>>
     ensures refused { IfErr result (λ refused. refused.back ≡ call) }
     ensures fresh { IfOk result (λ task. task.is_taken ≡ false) }
+    ensures client { IfOk result (λ task. task.job.client ≡ executor.now.client) }
+{
+    unblock_for(executor, executor.client(), call)
+}
+
+/// Runs a call of a client on the executor's pool, as [`unblock`] does: of each client no more jobs run than
+/// [`set_client_limit`](crate::set_client_limit) allows, while other clients' pass them by.
+pub fn unblock_for<F: Call<Out: Drop> + Drop, J: Job + Carries<CallJob<F, H>>, H: Runtime>(
+    executor: &Executor<J, H>,
+    client: u32,
+    call: F,
+) -> Result<Task<F, H>, Refused<F>>
+    ensures refused { IfErr result (λ refused. refused.back ≡ call) }
+    ensures fresh { IfOk result (λ task. task.is_taken ≡ false) }
+    ensures client { IfOk result (λ task. task.job.client ≡ client) }
 {
     let rt = executor.runtime();
     let Ok(link) = Arc::new(rt.alloc(), Link::new()) else {
@@ -309,7 +327,7 @@ pub fn unblock<F: Call<Out: Drop> + Drop, J: Job + Carries<CallJob<F, H>>, H: Ru
             why: Refusal::Memory,
         });
     };
-    match executor.add(J::wrap(CallJob::new(rt, call, theirs))) {
+    match executor.add_for(client, J::wrap(CallJob::new(rt, call, theirs))) {
         Ok(job) => Ok(Task::new(rt, link, job)),
         Err(refused) => Err(CallJob::refused_call(refused.unwrap())),
     }

@@ -68,7 +68,7 @@ fn add_both<H: Host>(rt: H, executor: &Executor<Meet, H>) -> io::Result<Option<(
         stays: false,
     };
     Ok(match (executor.add(first), executor.add(second)) {
-        (Ok(first), Ok(second)) => Some((first, second)),
+        (Ok(first), Ok(second)) => Some((first.number(), second.number())),
         _ => None,
     })
 }

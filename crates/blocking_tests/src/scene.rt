@@ -2,7 +2,10 @@
 //! promises nothing.
 use crate::threads::{come_to_be, has_worker};
 use crate::visit::{LOOKS, Stop, Track, Visit};
-use blocking::{CallJob, Cancel, Executor, Host, Runtime, Task, set_max_blocking_threads, unblock};
+use blocking::{
+    CallJob, Cancel, Executor, Host, Runtime, Task, set_client_limit, set_max_blocking_threads,
+    unblock_for,
+};
 use blocking_core::pool::{Carries, Job};
 use futures::task::Poll;
 use futures::test::MockTask;
@@ -19,12 +22,16 @@ use std::{io, mem, thread};
 pub(crate) enum Step {
     /// A call begins, which has this stop.
     Begin(Stop),
+    /// A call of a client begins, which has this stop.
+    BeginFor(u32, Stop),
     /// Something is done with a call or with its task.
     Do(usize, Act),
     /// Something is seen of a call or of its task.
     See(usize, Sight),
     /// The limit is set.
     Limit(usize),
+    /// The limit of running jobs for each client is set, or let go.
+    ClientLimit(Option<usize>),
     /// A sweep puts so many jobs back.
     Sweep(usize),
     /// The workers come to be so many.
@@ -201,7 +208,8 @@ impl<J: Job + Carries<CallJob<Visit, H>>, H: Runtime + RandomSource + Files> Sce
     // Whether a step shows what it must.
     fn take(&mut self, step: Step) -> io::Result<bool> {
         match step {
-            Step::Begin(stop) => self.begin(stop),
+            Step::Begin(stop) => self.begin(0, stop),
+            Step::BeginFor(client, stop) => self.begin(client, stop),
             Step::Do(place, act) => match self.calls.get_mut(place) {
                 Some(call) => Ok(call.act(act)),
                 None => Ok(false),
@@ -211,6 +219,7 @@ impl<J: Job + Carries<CallJob<Visit, H>>, H: Runtime + RandomSource + Files> Sce
                 None => Ok(false),
             },
             Step::Limit(limit) => Ok(self.limit(limit)),
+            Step::ClientLimit(limit) => Ok(self.limit_clients(limit)),
             Step::Sweep(count) => Ok(self.executor.sweep() == count),
             Step::Workers(count) => come_to_be(&self.rt, count),
             Step::Worker(number) => has_worker(&self.rt, number),
@@ -221,10 +230,10 @@ impl<J: Job + Carries<CallJob<Visit, H>>, H: Runtime + RandomSource + Files> Sce
         }
     }
 
-    fn begin(&mut self, stop: Stop) -> io::Result<bool> {
+    fn begin(&mut self, client: u32, stop: Stop) -> io::Result<bool> {
         let track = Arc::new(self.rt.alloc(), Track::new(self.calls.len(), stop))?;
         let call = Visit::new(Arc::try_clone(&track)?);
-        let Ok(task) = unblock(&self.executor, call) else {
+        let Ok(task) = unblock_for(&self.executor, client, call) else {
             return Ok(false);
         };
         self.calls.push(Begun {
@@ -237,7 +246,7 @@ impl<J: Job + Carries<CallJob<Visit, H>>, H: Runtime + RandomSource + Files> Sce
 
     // Whether a call was made that nobody awaits.
     fn make_detached(&mut self) -> io::Result<bool> {
-        let has_begun = self.begin(Stop::Nowhere)?;
+        let has_begun = self.begin(0, Stop::Nowhere)?;
         match self.calls.last_mut() {
             Some(call) => Ok(has_begun && call.act(Act::Detach) && call.track.goes()),
             None => Ok(false),
@@ -264,6 +273,14 @@ impl<J: Job + Carries<CallJob<Visit, H>>, H: Runtime + RandomSource + Files> Sce
             set_max_blocking_threads(&self.executor, limit);
         }
         limit > 0
+    }
+
+    fn limit_clients(&self, limit: Option<usize>) -> bool {
+        if let Some(0) = limit {
+            return false;
+        }
+        set_client_limit(&self.executor, limit);
+        true
     }
 
     fn start_clock(&mut self) -> io::Result<bool> {

@@ -56,6 +56,26 @@ pub(crate) fn come_to_be<R: System>(rt: &R, count: usize) -> io::Result<bool> {
     Ok(false)
 }
 
+// How long a thread has had a processor, in nanoseconds: the first number of what the system tells of it.
+fn nanos_of(told: &str) -> u64 {
+    told.split_ascii_whitespace()
+        .next()
+        .and_then(|digits| digits.parse::<u64>().ok())
+        .unwrap_or(0)
+}
+
+/// How long the threads of this process had a processor, in nanoseconds. (one that ended in between isn't counted)
+pub(crate) fn processor_nanos<R: System>(rt: &R) -> io::Result<u64> {
+    let mut nanos = 0u64;
+    for thread in fs::read_dir(rt, "/proc/self/task")? {
+        let path = thread?.path().join(rt.alloc(), "schedstat")?;
+        if let Ok(told) = fs::read_to_string(rt, path) {
+            nanos = nanos.saturating_add(nanos_of(told.as_str()));
+        }
+    }
+    Ok(nanos)
+}
+
 /// Whether there is a worker of this number, by its name.
 pub(crate) fn has_worker<R: System>(rt: &R, number: u64) -> io::Result<bool> {
     for name in names(rt)?.iter() {

@@ -142,8 +142,8 @@ fn add_all<H: Host>(
             stops: place == PARKED,
             has_waited: false,
         };
-        if let Ok(number) = jobs.add(job) {
-            numbers.push(number)?;
+        if let Ok(entered) = jobs.add(job) {
+            numbers.push(entered.number())?;
         }
         let _ = reaches(&track.steps, numbers.len());
     }

@@ -156,9 +156,10 @@ impl<H: Runtime> Bench<H> {
             marks_itself: kind.marks_itself,
             track: Arc::try_clone(&track)?,
         };
-        let Ok(no) = self.executor.add(job) else {
+        let Ok(entered) = self.executor.add(job) else {
             return Ok(false);
         };
+        let no = entered.number();
         self.jobs.push(Added { no, track })?;
         Ok(true)
     }

@@ -163,6 +163,11 @@ module _ {T I H : Type 0} where
   abbrev pub IsClosed : Place T I H → Type 0
   IsClosed place = IsAt state.Closed place
 
+  -- a session that is there is this client's
+  abbrev pub IsFor : ℕ → Place T I H → Type 0
+  IsFor client (place.Lent session) = session.job.client ≡ client
+  IsFor client _ = Unit {0}
+
 module _ {E : Type 0} where
   -- A fault that a job gives back with its handle: its handle's own, or that a write got nothing on. It is no refusal.
   abbrev pub IsOfJob : Option (Fault E) → Type 0

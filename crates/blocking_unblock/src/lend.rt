@@ -12,9 +12,9 @@ use crate::parts::{ItemParts, ReadParts, WriteParts, item_parts, read_parts, wri
 use crate::session::{Session, Side};
 use crate::spare::Spare;
 use blocking_core::io::Position;
-use blocking_core::pool::{Carries, Job, JobNo, Refusal, Refused};
+use blocking_core::pool::{Carries, Job, Refusal, Refused};
 use blocking_core::task::{CallOn, OfSlot, Seat};
-use blocking_executor::{Executor, Runtime};
+use blocking_executor::{Entered, Executor, Runtime};
 use blocking_jobs::{ItemJob, Linked, OpJob, ReadJob, ResultPlace, ResultSeat, SeekJob, WriteJob};
 use futures::task::Context;
 use std::io::{Read, Seek, Write};
@@ -63,6 +63,7 @@ pub(crate) trait Lends<T: Drop, I: Drop, J: Job, H: Runtime> {
         ensures begun { IfOk result (λ session. (state : State) → begins self.old state
             → (Lent (kind_of session.side) session.owner_end ≡ state) × Onward state (begins self.new state) (keeps self.new Kept.Way)) }
         ensures fresh { IfOk result (λ session. crossed session.side ≡ 0) }
+        ensures client { IfOk result (λ session. session.job.client ≡ executor.now.client) }
         ensures to_come { IfOk result (λ session. is_back session.side ≡ false) };
 
     /// Keeps an item that came.
@@ -78,15 +79,16 @@ pub(crate) trait Lends<T: Drop, I: Drop, J: Job, H: Runtime> {
         ensures kept { Keeps cx.old cx.new };
 }
 
-// Adds a job, which comes back where it is refused.
+// Adds a job for the executor's client. It comes back where it is refused.
 fn enter<K: Drop, J: Job + Carries<K>, H: Runtime>(
     executor: &Executor<J, H>,
     job: K,
-) -> Result<JobNo, Refused<K>>
-    ensures { IfErr result (λ refused. refused.back ≡ job) }
+) -> Result<Entered, Refused<K>>
+    ensures refused { IfErr result (λ refused. refused.back ≡ job) }
+    ensures client { IfOk result (λ entered. entered.client ≡ executor.now.client) }
 {
     match executor.add(J::wrap(job)) {
-        Ok(number) => Ok(number),
+        Ok(entered) => Ok(entered),
         Err(refused) => Err(refused.unwrap()),
     }
 }

@@ -11,10 +11,11 @@ ghost use Rattle.blocking_unblock.specs.Owners.{note_of_drain, answer_of_drain, 
 use crate::spare::Spare;
 use blocking_core::io::{Fault, JobFault, Position};
 use blocking_core::pipe::{Drained, Filled, Received};
-use blocking_core::pool::{JobNo, WakeNote};
+use blocking_core::pool::WakeNote;
 use blocking_core::task::{OfSlot, Seat};
 use blocking_core::unblock::{OwnerAnswer, OwnerEnd, SessionKind};
 use blocking_ends::{AnyPlace, DrainEnd, FillEnd, ItemRecvEnd, PeekEnd, SendEnd};
+use blocking_executor::Entered;
 use blocking_jobs::{MayFail, ReadBack, Returned, SessionStore, Sought, WayBack, WriteBack};
 use futures::task::Context;
 use std::io;
@@ -33,8 +34,8 @@ pub(crate) enum Side<T: Drop, I: Drop, H: Wait + Copy> {
 /// The owner's side of a session. One without a pipe counts as open.
 #[derive(Drop)]
 pub(crate) struct Session<T: Drop, I: Drop, H: Wait + Copy> {
-    // (the number of its job: who has none has added none)
-    job: JobNo,
+    // (who has none has added none)
+    job: Entered,
     side: Side<T, I, H>,
     owner_end: OwnerEnd,
 }
@@ -134,7 +135,8 @@ impl<T: Drop, I: Drop, H: Wait + Copy> Session<T, I, H> {
     ghost use Rattle.blocking_unblock.specs.Owners.{kind_of, crossed, has, BackFrom, SawEndOf, is_back};
     ghost use Rattle.blocking_unblock.specs.Polls.{Drains, Fills, OnEnded, crossed_by};
 
-    pub(crate) fn new(job: JobNo, side: Side<T, I, H>) -> Session<T, I, H>
+    pub(crate) fn new(job: Entered, side: Side<T, I, H>) -> Session<T, I, H>
+        ensures job { result.job ≡ job }
         ensures side { result.side ≡ side }
         ensures open { result.owner_end ≡ Open }
     {

@@ -32,7 +32,8 @@ use std::{fmt, io, mem};
 /// Dropping it waits for no job. It takes the locks of the pipe and of the pool, and may start a worker, as a wake does. A handle that is with its
 /// owner is dropped here, and one that its job gave back by whoever lets go last. Else the owner's end of the pipe is closed, and a worker drops the
 /// handle with the session's job: of one that waits when it is next taken, of one that runs when it comes to its end. Where no worker is left and
-/// none can be had, that job stays queued. A job that reads or gives items makes one more call at most. One that writes and runs writes all that it
+/// none can be had, that job stays queued, and where its client is at its limit of running jobs it isn't taken before another job of that client is
+/// over or waits. A job that reads or gives items makes one more call at most. One that writes and runs writes all that it
 /// was given, and flushes; one that waits has written all, and is dropped unflushed unless a worker takes it first, as what a queued one had to
 /// write is lost. A seek or an operation under way is made.
 ///
@@ -95,6 +96,29 @@ impl<T: Drop, I: Drop, J: Job, H: Runtime> Unblock<T, I, J, H> {
             capacity: Capacity::new(capacity, capacity),
             executor,
             items: PhantomData,
+        }
+    }
+
+    /// This owner, whose sessions are another client's from the next one on: of each client no more jobs run than
+    /// [`set_client_limit`](blocking_executor::set_client_limit) allows. One that is under way keeps its client. Takes no memory.
+    pub fn for_client(self, client: u32) -> Self
+        ensures client { result.executor ≡ record self.executor { client = client } }
+        ensures place { result.place ≡ self.place }
+        ensures rest { (result.spare ≡ self.spare) × (result.capacity ≡ self.capacity) }
+    {
+        let Unblock {
+            place,
+            spare,
+            capacity,
+            executor,
+            items,
+        } = self;
+        Unblock {
+            place,
+            spare,
+            capacity,
+            executor: executor.for_client(client),
+            items,
         }
     }
 
@@ -197,7 +221,7 @@ impl<T: Drop, I: Drop, J: Job, H: Runtime> Unblock<T, I, J, H> {
     ghost use Rattle.std.specs.Borrow.{sem};
     ghost use Rattle.std.specs.Option.{option_copied_mut};
     ghost use Rattle.blocking_unblock.specs.Loans.{lends_handle};
-    ghost use Rattle.blocking_unblock.specs.Owners.{IsClosed, IsAt, handle_in, HasCrossed, Reaches, Follows, KeepsRefused, KeepsAtOnce, crossed_before, state_of, has, reply_of_get, wanted, offered};
+    ghost use Rattle.blocking_unblock.specs.Owners.{IsClosed, IsFor, IsAt, handle_in, HasCrossed, Reaches, Follows, KeepsRefused, KeepsAtOnce, crossed_before, state_of, has, reply_of_get, wanted, offered};
     ghost use Rattle.blocking_unblock.specs.Polls.{MayAsk, CanDo, Does, Brings, FitsReply, Stands, IsGoing, KeepsFirst, KeepsBrought, KeepsOpen, HasPipe, HasSession, Crosses, Crossing, Drains, Fills, Resumes, Kept, last_action};
     ghost use Rattle.blocking_core.specs.OwnerCalls.{begun_by};
 
@@ -208,6 +232,7 @@ impl<T: Drop, I: Drop, J: Job, H: Runtime> Unblock<T, I, J, H> {
         requires ready { (state : StateSeen) × B.begins brought.old state }
         ensures does { Does (B.begins brought.old) BeginAction self.old.place result false self.new.place (Unit {0}) }
         ensures brings { Brings B.begins B.keeps BeginAction result brought.old brought.new }
+        ensures client { IsFor self.old.executor.client self.new.place }
         ensures rest { (self.new.capacity ≡ self.old.capacity) × (self.new.executor ≡ self.old.executor) }
     {
         let Place::Idle(handle) = mem::replace(&mut self.place, Place::Closed) else {

@@ -11,6 +11,8 @@ mod both;
 #[cfg(test)]
 mod calls;
 #[cfg(test)]
+mod clients;
+#[cfg(test)]
 mod cut;
 #[cfg(test)]
 mod drops;

@@ -211,7 +211,7 @@ fn play<H: Host>(
     let (sender, drainer, mut piece) = link_drain(rt, memory)?;
     piece.resize(long, 0)?;
     let executor: Executor<Nothing, H> = Executor::new(rt, Some("1"))?;
-    let me = executor.add(Nothing)?;
+    let me = executor.add(Nothing)?.number();
     let bench = Bench {
         executor,
         me,

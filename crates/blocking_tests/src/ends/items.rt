@@ -185,7 +185,7 @@ fn first_wrong<H: Host>(
 ) -> Result<Option<(usize, Shown)>, Fail> {
     let (sender, receiver) = link_items(rt, 2)?;
     let executor: Executor<Nothing, H> = Executor::new(rt, Some("1"))?;
-    let me = executor.add(Nothing)?;
+    let me = executor.add(Nothing)?.number();
     let bench = Bench {
         executor,
         me,

@@ -365,7 +365,7 @@ fn first_wrong<S: CopyStore<u8>, T: CopyStore<u8>, H: Host>(
 ) -> Result<Option<(usize, Shown)>, Fail> {
     let piece = vec![in rt.alloc(); 0; 2]?;
     let executor: Executor<Nothing, H> = Executor::new(rt, Some("1"))?;
-    let me = executor.add(Nothing)?;
+    let me = executor.add(Nothing)?.number();
     let (sender, receiver) = sending;
     let (filler, taker) = filling;
     let bench = Bench {
