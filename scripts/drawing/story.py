@@ -21,11 +21,11 @@ TAKEN = rf"got ({HEX}|item \d+){WAKE}|got end|put \d+{WAKE}|put shut"
 OF_POLL = rf"accepted \d+|refused {WHY}|closed{WAKE}|delivered \d+ \w+|{TAKEN}|back|result \d+|waits|replied {REPLY}"
 OF_JOB = r"room \d+|parked|shut|peeked \d+|drained|lost \d+|(put \d+|taken \d+|closed|result|finished|gave up)"
 FORMS = {
-    "new": (r"new \d+", r"made \d+"),
+    "new": (r"new \d+( for \d+)?", r"made \d+"),
     "ask": (rf"ask \d+ {CALL}", "asked"),
     "own": (r"own \d+( \*)?", OF_POLL),
     "drop": (r"drop \d+", "dropped"),
-    "spawn": ("spawn", rf"accepted \d+|refused {WHY}"),
+    "spawn": (r"spawn( for \d+)?", rf"accepted \d+|refused {WHY}"),
     "task": (r"task \d+ (poll|cancel|detach|drop)", r"got (\d+|none)|waits|cancelled|detached|dropped"),
     "arrive": ("arrive", r"arrived \d+"),
     "take": (r"take \d+", r"took \d+( dropped)?|idle"),
@@ -35,6 +35,7 @@ FORMS = {
     "wait": (r"wait \d+", r"(stays|stopped) \d+"),
     "late": (r"late \d+", r"(stays|stopped) \d+"),
     "limit": (r"limit \d+", r"limit \d+"),
+    "clients": (r"clients (\d+|none)", r"clients (\d+|none)"),
     "sweep": ("sweep", r"swept \d+"),
     "stray": (r"stray \d+", r"delivered \d+ \w+"),
     "strike": (r"strike \d+", r"cancelled \d+ \w+"),
@@ -114,9 +115,11 @@ class Pipe:
 
 @dataclass
 class Owner:
-    """An owner: the call of its poll that is under way, its last session, and the wake that it took and hasn't delivered."""
+    """An owner: its client where one is named, the call of its poll that is under way, its last session, and the wake that it took and hasn't
+    delivered."""
 
     capacity: int
+    client: str = ""
     call: list | None = None
     is_closed: bool = False
     session: int | None = None
@@ -155,6 +158,11 @@ class Copier:
             self.call = ["write", f"{self.rest} bytes"]
         else:
             self.call = ["read", str(self.piece)]
+
+
+def client_of(words):
+    """Whose jobs a line is about, where it names a client."""
+    return f" for {words[-1]}" if "for" in words else ""
 
 
 @dataclass
@@ -343,7 +351,7 @@ class Player:
     def see_new(self, words, act):
         """An owner was made."""
         number = int(act[1])
-        self.owners[number] = Owner(int(words[1]))
+        self.owners[number] = Owner(int(words[1]), client=client_of(words))
         self.stand(("owner", number), "handle", "idle", "idle")
 
     def see_ask(self, words, act):
@@ -388,7 +396,7 @@ class Player:
         """A session of an owner begins."""
         kind = KIND_BEGUN[owner.call[0].rstrip("+")]
         self.jobs[serial] = Job(lane, kind)
-        self.standing(serial, "queued")
+        self.standing(serial, "queued", "queued" + owner.client)
         owner.session = serial
         self.stand(lane, "handle", "lent", f"{kind}, job {serial}")
         if kind in PIPED:
@@ -440,7 +448,7 @@ class Player:
             lane, serial = ("task", len(self.tasks)), int(act[1])
             self.tasks[lane[1]] = serial
             self.jobs[serial] = Job(lane, "call")
-            self.standing(serial, "queued")
+            self.standing(serial, "queued", "queued" + client_of(words))
             self.stand(lane, "task", "there", f"job {serial}")
 
     def see_task(self, words, act):
@@ -473,7 +481,7 @@ class Player:
             self.stand(("worker", worker), "hand", tone, text or f"job {serial}")
 
     def see_take(self, words, act):
-        """A worker took the front job, or found none."""
+        """A worker took the first job that was ready, or found none."""
         if act[-1] == "dropped":
             self.hand_out(int(words[1]), int(act[1]))
         elif act[0] == "took":
@@ -544,6 +552,9 @@ class Player:
 
     def see_limit(self, words, act):
         """The limit is another: nobody stands otherwise after it."""
+
+    def see_clients(self, words, act):
+        """The client limit is another: nobody stands otherwise after it."""
 
     def see_sweep(self, words, act):
         """The parked jobs that bear a mark are queued again."""

@@ -10,7 +10,7 @@ from .source import CRATES
 # The groups of each page, with the names that users write. `module::*` stands for all others of a module.
 GROUPS = {
     "blocking": {
-        "calls": "Call unblock Task Cancel CallJob Refused Refusal",
+        "calls": "Call unblock unblock_for Task Cancel CallJob Refused Refusal",
         "lent handles": "Unblock Reader Writer Items CallOn WithMut IntoInner Fault IoFault",
         "reads": "AsyncReadExt AsyncRead ReadSome ReadExact ReadToEnd",
         "writes": "AsyncWriteExt AsyncWrite WriteSome WriteAll Flush Close",
@@ -20,8 +20,8 @@ GROUPS = {
         "pipes": "link link_over link_in link_in_over link_drain link_items unlink_in unlink_drain PieceMemory PlaceRule AnyPlace"
         " SendEnd RecvEnd DrainEnd FillEnd PeekEnd ItemSendEnd ItemSending WhyUnsent JobSeated SeenShut ItemRecvEnd Closed ToldEnd SeenEnd OwnerWaker"
         " Store CopyStore RingStore RingMemory FlatStore FlatMemory LendingStore LendingMemory pipe::*",
-        "pools": "Executor set_max_blocking_threads max_threads DEFAULT_MAX_THREADS MIN_MAX_THREADS MAX_MAX_THREADS MAX_THREADS_ENV"
-        " Counts Runtime Host ThreadStarter Held Ended Job JobNo JobStep WakeNote Starter StartRefused pool::*",
+        "pools": "Executor set_max_blocking_threads set_client_limit max_threads DEFAULT_MAX_THREADS MIN_MAX_THREADS MAX_MAX_THREADS MAX_THREADS_ENV"
+        " Counts Runtime Host ThreadStarter Held Ended Entered Job JobNo JobStep WakeNote Starter StartRefused pool::*",
     },
     "blocking_core": {
         "calls": "task::Call task::CallOn task::Slot task::Slotted task::Looked task::Polled task::Put task::*",

@@ -23,12 +23,14 @@ pub(crate) enum Bench {
 }
 
 impl Bench {
-    pub(crate) const ALL: [Bench; 31] = [
+    pub(crate) const ALL: [Bench; 33] = [
         Bench::Calls(Calls::Roundtrip),
         Bench::Calls(Calls::RoundtripAwait),
         Bench::Calls(Calls::Burst),
         Bench::Calls(Calls::BurstLimited),
         Bench::Calls(Calls::Idle),
+        Bench::Calls(Calls::ClientsBlocked),
+        Bench::Calls(Calls::ClientsMany),
         Bench::Pipe,
         Bench::Ends(Ends::Bytes),
         Bench::Ends(Ends::Items),

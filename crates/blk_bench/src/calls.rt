@@ -1,10 +1,12 @@
 //! The benchmarks of calls.
 use crate::figures::{Figures, Request, each};
-use blocking::{CallJob, Executor, Host, Task, unblock};
+use blocking::{CallJob, Executor, Host, Task, set_client_limit, unblock, unblock_for};
 use blocking_core::task::Call;
 use futures::Future;
 use futures::executor::{block_on, block_on_queue};
 use futures::task::{Context, Doorbell, Poll, Queue};
+use std::sync::Arc;
+use std::sync::atomic::{AtomicBool, Ordering};
 use std::time::{Duration, Instant};
 use std::{io, thread};
 
@@ -13,6 +15,8 @@ use std::{io, thread};
 enum Work {
     Succeed(u64),
     Sleep(HostRuntime, u64),
+    // Sleeps until the flag is set.
+    Until(HostRuntime, Arc<AtomicBool>),
 }
 
 impl Call for Work {
@@ -27,12 +31,37 @@ impl Call for Work {
                 thread::sleep(&rt, Duration::from_millis(millis));
                 millis
             }
+            Work::Until(rt, flag) => sleep_until(rt, &flag),
         }
     }
 }
 
 // How many milliseconds a call sleeps, of those that sleep.
 const MILLIS: u64 = 300;
+
+// How often a call looks for its flag, with a millisecond between, before it gives up.
+const LOOKS: u64 = 600_000;
+
+// Sleeps until the flag is set, and answers how many looks that took.
+fn sleep_until(rt: HostRuntime, flag: &AtomicBool) -> u64 {
+    for look in 0..LOOKS {
+        if flag.load(Ordering::SeqCst) {
+            return look;
+        }
+        thread::sleep(&rt, Duration::from_millis(1));
+    }
+    LOOKS
+}
+
+// The client whose calls are held up, how many of them are queued, and the client that calls beside it.
+const HELD_UP: u32 = 7;
+
+const QUEUED: usize = 60_000;
+
+const BESIDE: u32 = 8;
+
+// Over how many clients the calls of `clients_many` are spread.
+const CLIENTS: u32 = 1_000;
 
 type Workers<R> = Executor<CallJob<Work, R>, R>;
 
@@ -44,6 +73,8 @@ pub(crate) enum Calls {
     Burst,
     BurstLimited,
     Idle,
+    ClientsBlocked,
+    ClientsMany,
 }
 
 impl Calls {
@@ -54,6 +85,8 @@ impl Calls {
             Calls::Burst => "burst",
             Calls::BurstLimited => "burst_limited",
             Calls::Idle => "idle",
+            Calls::ClientsBlocked => "clients_blocked",
+            Calls::ClientsMany => "clients_many",
         }
     }
 
@@ -66,8 +99,8 @@ impl Calls {
 
     pub(crate) fn size(self) -> usize {
         match self {
-            Calls::Roundtrip | Calls::RoundtripAwait => 20_000,
-            Calls::Burst | Calls::BurstLimited => 10_000,
+            Calls::Roundtrip | Calls::RoundtripAwait | Calls::ClientsBlocked => 20_000,
+            Calls::Burst | Calls::BurstLimited | Calls::ClientsMany => 10_000,
             Calls::Idle => 1_000,
         }
     }
@@ -84,15 +117,39 @@ impl Calls {
         let Ok(executor) = Executor::new(host, setting) else {
             return Err(failed());
         };
+        let held_up = self.prepare(rt, host, &executor)?;
         for rep in 0..=request.reps {
             let figure = self.once(rt, host, &executor, request.size, figures)?;
             figures.note(rep, figure)?;
+        }
+        if let Some(held_up) = held_up {
+            held_up.let_go(host)?;
         }
         if let Calls::Idle = self {
             // Whoever watches from outside sees the workers go.
             thread::sleep(&rt, Duration::from_millis(1500));
         }
         Ok(())
+    }
+
+    // What has to be there before the first call: a limit for each client, and calls of one that are held up.
+    fn prepare<R: Host>(
+        self,
+        rt: HostRuntime,
+        host: R,
+        executor: &Workers<R>,
+    ) -> io::Result<Option<HeldUp<R>>> {
+        match self {
+            Calls::ClientsBlocked => {
+                set_client_limit(executor, Some(1));
+                Ok(Some(HeldUp::begin(rt, host, executor)?))
+            }
+            Calls::ClientsMany => {
+                set_client_limit(executor, Some(1));
+                Ok(None)
+            }
+            _ => Ok(None),
+        }
     }
 
     // So many calls, in the name's unit.
@@ -123,9 +180,11 @@ impl Calls {
         figures: &mut Figures,
     ) -> io::Result<()> {
         match self {
-            Calls::Roundtrip => roundtrip(&rt, host, executor, size, figures),
+            Calls::Roundtrip => roundtrip(&rt, host, executor, 0, size, figures),
+            Calls::ClientsBlocked => roundtrip(&rt, host, executor, BESIDE, size, figures),
             Calls::RoundtripAwait => roundtrip_await(host, executor, size),
-            Calls::Burst | Calls::BurstLimited => burst(host, executor, size),
+            Calls::Burst | Calls::BurstLimited => burst(host, executor, 1, size),
+            Calls::ClientsMany => burst(host, executor, CLIENTS, size),
             Calls::Idle => sleepers(rt, host, executor, size),
         }
     }
@@ -154,6 +213,42 @@ fn begun<R: Host>(executor: &Workers<R>, work: Work) -> io::Result<Task<Work, R>
     }
 }
 
+fn begun_for<R: Host>(executor: &Workers<R>, client: u32, work: Work) -> io::Result<Task<Work, R>> {
+    match unblock_for(executor, client, work) {
+        Ok(task) => Ok(task),
+        Err(_) => Err(failed()),
+    }
+}
+
+// The calls of a client of which one may run: the first sleeps until they are let go, and the others are queued behind it.
+#[derive(Drop)]
+struct HeldUp<R: Host> {
+    flag: Arc<AtomicBool>,
+    first: Task<Work, R>,
+    tasks: Vec<Task<Work, R>>,
+}
+
+impl<R: Host> HeldUp<R> {
+    fn begin(rt: HostRuntime, host: R, executor: &Workers<R>) -> io::Result<HeldUp<R>> {
+        let flag = Arc::new(host.alloc(), AtomicBool::new(false))?;
+        let until = Work::Until(rt, Arc::try_clone(&flag)?);
+        let first = begun_for(executor, HELD_UP, until)?;
+        let mut tasks = Vec::with_capacity(host.alloc(), QUEUED)?;
+        for n in 0..QUEUED {
+            tasks.push(begun_for(executor, HELD_UP, Work::Succeed(n as u64))?)?;
+        }
+        Ok(HeldUp { flag, first, tasks })
+    }
+
+    // Lets the calls go, and awaits them.
+    fn let_go(self, host: R) -> io::Result<()> {
+        let HeldUp { flag, first, tasks } = self;
+        flag.store(true, Ordering::SeqCst);
+        first.detach();
+        await_all(host, tasks, None)
+    }
+}
+
 // Makes a call, which is to answer 42, and awaits it through a queue of tasks.
 fn call_by<R: Host>(host: R, executor: &Workers<R>, queue: &Queue) -> io::Result<()> {
     let task = begun(executor, Work::Succeed(41))?;
@@ -175,17 +270,18 @@ fn call_in_turn<R: Host>(
     Ok(())
 }
 
-// One call after another, each awaited by a `block_on` of its own.
+// One call of a client after another, each awaited by a `block_on` of its own.
 fn roundtrip<R: Host>(
     rt: &HostRuntime,
     host: R,
     executor: &Workers<R>,
+    client: u32,
     size: usize,
     figures: &mut Figures,
 ) -> io::Result<()> {
     let mut last = Instant::now(rt)?;
     for _ in 0..size {
-        let task = begun(executor, Work::Succeed(41))?;
+        let task = begun_for(executor, client, Work::Succeed(41))?;
         if task.is_taken() {
             return Err(failed());
         }
@@ -236,11 +332,13 @@ impl<R: Host> Future for InOrder<R> {
     }
 }
 
-// All calls first, then each answer in order, in one `block_on`.
-fn burst<R: Host>(host: R, executor: &Workers<R>, size: usize) -> io::Result<()> {
+// All calls first, spread over so many clients from client 0 on, then each answer in order, in one `block_on`.
+fn burst<R: Host>(host: R, executor: &Workers<R>, clients: u32, size: usize) -> io::Result<()> {
     let mut tasks = Vec::with_capacity(host.alloc(), size)?;
     for n in 0..size {
-        tasks.push(begun(executor, Work::Succeed(n as u64))?)?;
+        let number = u32::try_from(n).unwrap_or(0);
+        let client = number.checked_rem(clients).unwrap_or(0);
+        tasks.push(begun_for(executor, client, Work::Succeed(n as u64))?)?;
     }
     await_all(host, tasks, None)
 }

@@ -2,7 +2,7 @@
 use crate::handle::{Gate, LOOKS};
 use crate::mark::{COUNTED, GRANTED, REFUSED, mark};
 use crate::scene::rests;
-use blocking::{CallJob, Executor, Host, Task, unblock};
+use blocking::{CallJob, Executor, Host, Task, set_client_limit, unblock_for};
 use blocking_core::pool::{Carries, Job, Refused};
 use blocking_core::task::Call;
 use futures::executor::block_on_queue;
@@ -33,19 +33,44 @@ impl Call for Count {
 
 type Callers<H> = Executor<CallJob<Count, H>, H>;
 
+// Whose calls they are.
+#[derive(Clone, Copy)]
+enum Whose {
+    // All are made for client 0.
+    One,
+    // Each is made for a client of its own, of which one job may run.
+    OfTheirOwn,
+}
+
+impl Whose {
+    // The client of the call of this number.
+    fn of(self, number: u64) -> u32 {
+        match self {
+            Whose::One => 0,
+            Whose::OfTheirOwn => u32::try_from(number).unwrap_or(u32::MAX),
+        }
+    }
+}
+
 // The calls that were accepted, and what they need. No answer takes memory to be awaited: that of the queue is there before.
 #[derive(Drop)]
 struct Accepted<J: Job, H: Host> {
     rt: H,
     queue: Queue,
     executor: Executor<J, H>,
+    clients: Whose,
     gate: Arc<Gate>,
     tasks: Vec<Task<Count, H>>,
 }
 
 impl<J: Job + Carries<CallJob<Count, H>>, H: Host + Print> Accepted<J, H> {
     // None yet, and room for so many.
-    fn new(rt: H, executor: Executor<J, H>, count: usize) -> io::Result<Accepted<J, H>> {
+    fn new(
+        rt: H,
+        executor: Executor<J, H>,
+        clients: Whose,
+        count: usize,
+    ) -> io::Result<Accepted<J, H>> {
         let queue = Queue::new(&rt, Doorbell::parking())?;
         // (once, so that the queue has its memory)
         block_on_queue(&rt, &queue, futures::future::ready(()))?;
@@ -55,6 +80,7 @@ impl<J: Job + Carries<CallJob<Count, H>>, H: Host + Print> Accepted<J, H> {
             rt,
             queue,
             executor,
+            clients,
             gate,
             tasks: Vec::with_capacity(rt.alloc(), count)?,
         })
@@ -63,7 +89,8 @@ impl<J: Job + Carries<CallJob<Count, H>>, H: Host + Print> Accepted<J, H> {
     // Makes one more call, whose gate is shut. Where it is refused that is told, and it is made again.
     fn call(&mut self, number: u64) -> io::Result<Option<&'static str>> {
         let gate = Arc::try_clone(&self.gate)?;
-        let task = match unblock(&self.executor, Count { gate, number }) {
+        let client = self.clients.of(number);
+        let task = match unblock_for(&self.executor, client, Count { gate, number }) {
             Ok(task) => task,
             Err(Refused { back, why }) => {
                 mark(&self.rt, GRANTED)?;
@@ -75,7 +102,7 @@ impl<J: Job + Carries<CallJob<Count, H>>, H: Host + Print> Accepted<J, H> {
                 if counts.queued.saturating_add(counts.running) != self.tasks.len() {
                     return Ok(Some("the refused call is queued, or runs"));
                 }
-                match unblock(&self.executor, back) {
+                match unblock_for(&self.executor, client, back) {
                     Ok(task) => task,
                     Err(_) => return Ok(Some("the next try is refused")),
                 }
@@ -173,12 +200,16 @@ impl<J: Job + Carries<CallJob<Count, H>>, H: Host + Print> Accepted<J, H> {
 
 fn on_new_executor<H: Host + Print>(
     rt: H,
+    clients: Whose,
     count: usize,
 ) -> io::Result<Option<Accepted<CallJob<Count, H>, H>>> {
-    match Executor::new(rt, Some(LIMIT)) {
-        Ok(executor) => Ok(Some(Accepted::new(rt, executor, count)?)),
-        Err(_) => Ok(None),
+    let Ok(executor) = Executor::new(rt, Some(LIMIT)) else {
+        return Ok(None);
+    };
+    if let Whose::OfTheirOwn = clients {
+        set_client_limit(&executor, Some(1));
     }
+    Ok(Some(Accepted::new(rt, executor, clients, count)?))
 }
 
 /// Makes an executor, and a call on it. What of it is wrong, if anything is.
@@ -196,12 +227,25 @@ pub(crate) fn executor<H: Host + Print>(rt: H) -> io::Result<Option<&'static str
             }
         }
     };
-    Accepted::new(rt, executor, 1)?.play(1)
+    Accepted::new(rt, executor, Whose::One, 1)?.play(1)
 }
 
 /// Makes so many calls before the first is answered. What of it is wrong, if anything is.
 pub(crate) fn calls<H: Host + Print>(rt: H, count: u64) -> io::Result<Option<&'static str>> {
-    match on_new_executor(rt, usize::try_from(count).unwrap_or(0))? {
+    calls_of(rt, Whose::One, count)
+}
+
+/// The same, where each call is made for a client of its own. What of it is wrong, if anything is.
+pub(crate) fn clients<H: Host + Print>(rt: H, count: u64) -> io::Result<Option<&'static str>> {
+    calls_of(rt, Whose::OfTheirOwn, count)
+}
+
+fn calls_of<H: Host + Print>(
+    rt: H,
+    clients: Whose,
+    count: u64,
+) -> io::Result<Option<&'static str>> {
+    match on_new_executor(rt, clients, usize::try_from(count).unwrap_or(0))? {
         Some(mut calls) => {
             mark(&rt, COUNTED)?;
             calls.play(count)
@@ -212,7 +256,7 @@ pub(crate) fn calls<H: Host + Print>(rt: H, count: u64) -> io::Result<Option<&'s
 
 /// Ends calls in each way while all is refused. What of it is wrong, if anything is.
 pub(crate) fn leaves<H: Host + Print>(rt: H) -> io::Result<Option<&'static str>> {
-    match on_new_executor(rt, 4)? {
+    match on_new_executor(rt, Whose::One, 4)? {
         Some(mut calls) => calls.run(),
         None => Ok(Some("there is no executor")),
     }

@@ -6,8 +6,9 @@
 //! | Words | What is played |
 //! |---|---|
 //! | `executor` | an executor is made, and a call |
-//! | `calls N` | N calls are made before the first is answered |
+//! | `calls N`, `clients N` | N calls are made before the first is answered; each for a client of its own, of which one job may run |
 //! | `begins KIND [OLDER]` | a session of this kind begins; behind an older one, which it stops first |
+//! | `passes CLIENTS ROUNDS` | so many clients come with a job each, and go, so many times, each time others |
 //! | `whole` | a read to the end |
 //! | `ends KIND`, `sweeps KIND`, `stops KIND`, `drops KIND` | a session, which has begun, comes to its end, does so while its pool is swept again and again, is stopped, or loses its owner, while all is refused |
 //! | `inside KIND`, `short KIND`, `gone KIND` | many owners, whose jobs wait, leave where the one worker is inside a call and there may be no other, where another may be asked for, or where none is left |
@@ -20,6 +21,7 @@ mod kind;
 mod kinds;
 mod leaving;
 mod mark;
+mod passing;
 mod running;
 mod scene;
 mod session;
@@ -62,6 +64,8 @@ fn main(rt: HostRuntime) -> io::Result<ExitCode> {
 enum Scenario {
     Executor,
     Calls(u64),
+    Clients(u64),
+    Passes(u32, u32),
     Begins(Kind, Option<Kind>),
     Whole,
     Runs(Kind, End),
@@ -74,6 +78,8 @@ impl Scenario {
         Some(match name {
             "executor" => Scenario::Executor,
             "calls" => Scenario::Calls(first.parse().ok()?),
+            "clients" => Scenario::Clients(first.parse().ok()?),
+            "passes" => Scenario::Passes(first.parse().ok()?, second?.parse().ok()?),
             "begins" => Scenario::Begins(
                 Kind::by_name(first)?,
                 match second {
@@ -100,6 +106,8 @@ impl Scenario {
         match self {
             Scenario::Executor => calls::executor(rt),
             Scenario::Calls(count) => calls::calls(rt, count),
+            Scenario::Clients(count) => calls::clients(rt, count),
+            Scenario::Passes(clients, rounds) => passing::passes(rt, clients, rounds),
             Scenario::Leaves => calls::leaves(rt),
             Scenario::Begins(..) | Scenario::Whole | Scenario::Runs(..) | Scenario::Left(..) => {
                 // (one worker at most, which isn't started yet)
@@ -120,7 +128,11 @@ impl Scenario {
             Scenario::Runs(kind, end) => running::runs(executor, kind, end),
             Scenario::Left(kind, staff) => leaving::leave(executor, kind, staff),
             Scenario::Whole => whole::reads(executor),
-            Scenario::Executor | Scenario::Calls(_) | Scenario::Leaves => Ok(None),
+            Scenario::Executor
+            | Scenario::Calls(_)
+            | Scenario::Clients(_)
+            | Scenario::Passes(..)
+            | Scenario::Leaves => Ok(None),
         }
     }
 }

@@ -1,6 +1,7 @@
 //! Uses of the crate `blocking`: one call here, and more in the modules. What they print is always the same.
 #![tactic(auto)]
 
+mod backup;
 mod folder;
 mod host;
 mod lines;
@@ -46,6 +47,7 @@ fn main(rt: HostRuntime) -> Result<()> {
     let text = block_on(&rt, task)??;
     print!(rt; "{path}: {text}")?;
     folder::show_folder(rt, rt)?;
+    backup::show_backup(rt, rt)?;
     more(rt)
 }
 
