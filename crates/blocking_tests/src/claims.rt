@@ -10,7 +10,7 @@ use std::test::Fail;
 use std::time::{Duration, Instant};
 
 // How often they are woken.
-const ROUNDS: u32 = 2_000;
+const ROUNDS: u32 = 500;
 
 // How long one job stays after they have met, so that the other's worker falls asleep meanwhile: for some 50 microseconds.
 const TURNS: u32 = 2_000;

@@ -4,7 +4,7 @@ use crate::scene::Act::GoOn;
 use crate::scene::Sight::{Gives, Stops, Unmade, Waits, Wakes};
 use crate::scene::Step::{Begin, BeginFor, ClientLimit, Do, Pause, See, Workers};
 use crate::scene::{Row, play};
-use crate::threads::processor_nanos;
+use crate::threads::{come_to_be, processor_nanos};
 use crate::visit::Stop::{InCall, Nowhere};
 use blocking::{CallJob, Executor, Host, Task, set_client_limit, unblock_for};
 use blocking_core::task::Call;
@@ -130,15 +130,18 @@ fn one_call_of_each_client_runs_at_a_time(rt: HostRuntime) -> Result<(), Fail> {
 // How long the threads may have a processor within a second in which all sleep, in nanoseconds.
 const HARDLY_ANY: u64 = 20_000_000;
 
+// How many workers are idle beside the one that runs a call.
+const IDLE: usize = 3;
+
 // How long they had one within a second: a call of a client sleeps so long, a hundred more of it are queued, and three workers are idle. None
-// where a call is refused.
+// where a call is refused, or others are idle.
 fn nanos_beside_queued_calls<H: Host + std::fs::Files>(rt: H) -> io::Result<Option<u64>> {
     let Ok(executor) = Executor::new(rt, Some("4")) else {
         return Ok(None);
     };
     // (so that there are four workers)
     let mut others = Client::new(rt, 0)?;
-    if !others.begin(&executor, 4, 50)? || !others.is_served()? {
+    if !others.begin(&executor, 4, 300)? || !come_to_be(&rt, 4)? || !others.is_served()? {
         return Ok(None);
     }
     set_client_limit(&executor, Some(1));
@@ -147,10 +150,12 @@ fn nanos_beside_queued_calls<H: Host + std::fs::Files>(rt: H) -> io::Result<Opti
         return Ok(None);
     }
     thread::sleep(&rt, Duration::from_millis(100));
+    let idle_before = executor.counts().idle;
     let before = processor_nanos(&rt)?;
     thread::sleep(&rt, Duration::from_secs(1));
     let after = processor_nanos(&rt)?;
-    if !client.is_served()? || client.most() != 1 {
+    let idle = (idle_before, executor.counts().idle);
+    if idle != (IDLE, IDLE) || !client.is_served()? || client.most() != 1 {
         return Ok(None);
     }
     Ok(Some(after.saturating_sub(before)))

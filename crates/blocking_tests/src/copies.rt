@@ -117,6 +117,16 @@ const ROWS: &[Row] = &[
         is_flushed: false,
     },
     Row {
+        name: "the read that would have met the end fails",
+        piece: 2,
+        reads: &[Count(2), Count(2), Say::Fault],
+        writes: &[],
+        flushes: &[],
+        answer: Answer::Reading,
+        written: 4,
+        is_flushed: false,
+    },
+    Row {
         name: "the first write fails",
         piece: 4,
         reads: &[Count(2)],
@@ -134,6 +144,16 @@ const ROWS: &[Row] = &[
         flushes: &[],
         answer: Answer::Writing,
         written: 1,
+        is_flushed: false,
+    },
+    Row {
+        name: "the write of the second piece fails",
+        piece: 2,
+        reads: &[Count(2), Count(2)],
+        writes: &[Wait, Count(2), Wait, Say::Fault],
+        flushes: &[],
+        answer: Answer::Writing,
+        written: 2,
         is_flushed: false,
     },
     Row {

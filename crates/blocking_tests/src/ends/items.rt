@@ -11,6 +11,7 @@ use blocking_core::pool::{Job, JobNo, JobStep, WakeNote};
 use futures::Future;
 use futures::executor::block_on;
 use futures::task::{Context, Poll};
+use std::io;
 use std::sync::atomic::{AtomicU64, Ordering};
 use std::sync::{Arc, Wait};
 use std::test::Fail;
@@ -401,6 +402,44 @@ fn are_gone(tally: &Tally) -> bool {
         yield_now();
     }
     false
+}
+
+// Two items are inside, and one end is dropped and then the other, neither of them closed. How many items are gone after each.
+fn gone_with_ends<H: Runtime>(rt: H, me: JobNo, is_sender_first: bool) -> io::Result<(u64, u64)> {
+    let tally = Tally {
+        made: AtomicU64::new(0),
+        gone: AtomicU64::new(0),
+    };
+    let tally = Arc::new(rt.alloc(), tally)?;
+    let (mut sender, receiver) = link_items::<Item, AnyPlace, H>(rt, 2)?;
+    for place in 0..2 {
+        let tally = Arc::try_clone(&tally)?;
+        drop(sender.send(me, Item { place, tally }));
+    }
+    if is_sender_first {
+        drop(sender);
+        let gone = tally.gone.load(Ordering::SeqCst);
+        drop(receiver);
+        return Ok((gone, tally.gone.load(Ordering::SeqCst)));
+    }
+    drop(receiver);
+    let gone = tally.gone.load(Ordering::SeqCst);
+    drop(sender);
+    Ok((gone, tally.gone.load(Ordering::SeqCst)))
+}
+
+#[test]
+fn items_inside_go_once_with_the_last_end(rt: HostRuntime) -> Result<(), Fail> {
+    let executor: Executor<Nothing, HostRuntime> = Executor::new(rt, Some("1"))?;
+    let me = executor.add(Nothing)?.number();
+    for is_sender_first in [true, false] {
+        assert_eq!(rt;
+            gone_with_ends(rt, me, is_sender_first)?,
+            (0, 2),
+            "{is_sender_first}"
+        );
+    }
+    Ok(())
 }
 
 const CAPACITIES: &[usize] = &[1, 2, 3, 100];
