@@ -6,3 +6,5 @@ pub mod OneAnswer
 pub mod OneEvent
 pub mod OneOwnerAct
 pub mod Orders
+pub mod Rooms
+pub mod Within

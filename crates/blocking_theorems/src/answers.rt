@@ -1,12 +1,14 @@
 //! What the pool answers.
-ghost use Rattle.std.specs.Prelude.{◌≡◌, ◌+◌, List, [], length, Some, None, true, false};
+ghost use Rattle.std.specs.Prelude.{◌≡◌, ◌≤◌, ◌+◌, ◌++◌, ℕ, Bool, List, [], length, Some, None, true, false};
 ghost use Rattle.blocking_pool.specs.declared.pool.answer.Refusal.TheVariants.{Memory, Numbers};
 ghost use Rattle.blocking_pool.specs.declared.pool.answer.Woke.TheVariants.{Entered, Marked, Nothing};
 ghost use Rattle.blocking_pool.specs.declared.pool.standing.Standing.TheVariants.{Queued, Parked, Done, Dropped};
-ghost use Rattle.blocking_laws.specs.Core.{greatest};
-ghost use Rattle.blocking_laws.specs.Jobs.{accepted_jobs};
-ghost use Rattle.blocking_laws.specs.Queue.{InOrder};
+ghost use Rattle.blocking_laws.specs.Core.{greatest, is_below};
+ghost use Rattle.blocking_laws.specs.Seen.{AtEveryBeginning};
+ghost use Rattle.blocking_laws.specs.Jobs.{accepted_jobs, client};
+ghost use Rattle.blocking_laws.specs.Queue.{InOrder, running, client_limit, of_client};
 ghost use Rattle.blocking_laws.specs.Answers.{AnswerLaw};
+ghost use Rattle.blocking_laws.specs.Steps.{job_taken};
 ghost use Rattle.blocking_laws.specs.Legal.{Legal};
 ghost use Rattle.blocking_laws.specs.Traces.{◌▸◌, moment, Refuses, Keeps, IsPooled};
 ghost use Rattle.blocking_laws.specs.Traces.{one_queued, one_arrived, one_taken, one_finished, one_done};
@@ -115,6 +117,33 @@ pub fn clients()
     ensures refuses_stop_beside_unready { Refuses (AnswerLaw 4) none_ready (moment (Late 2) (Worker 2) None (Stopped 2 TimedOut) 3) }
     // .. / ended 1 done / idle: its client has room again
     ensures refuses_idle_with_room { Refuses (AnswerLaw 4) room_again (moment (Take 1) (Worker 1) None TookNone 3) }
+{}
+
+/// A take leaves no more jobs of its client running than the client limit says, and nothing but a take makes more of them run. So where no more of
+/// a client's jobs run than the limit says, no more do as long as it stands. (Where a limit is set lower than what runs, what runs goes on.)
+pub fn within_client_limit()
+    ensures taken { (setting : ℕ) (plan : List Bool) (past : List Moment) (now : Moment) (s most : ℕ) →
+        IsPooled setting plan (past ▸ now) → job_taken now.event.act ≡ Some s → client_limit past ≡ Some most →
+        length (of_client (past ▸ now) (client (past ▸ now) s) (running (past ▸ now))) ≤ most }
+    // nothing but a take
+    ensures no_more { (setting : ℕ) (plan : List Bool) (past : List Moment) (now : Moment) (c : ℕ) →
+        IsPooled setting plan (past ▸ now) → job_taken now.event.act ≡ None →
+        length (of_client (past ▸ now) c (running (past ▸ now))) ≤ length (of_client past c (running past)) }
+    // whatever is seen next, of any client, where there is a limit that is no greater
+    ensures kept { (setting : ℕ) (plan : List Bool) (past : List Moment) (now : Moment) (c most : ℕ) →
+        IsPooled setting plan (past ▸ now) → is_below (client_limit past) most ≡ false →
+        length (of_client past c (running past)) ≤ most →
+        length (of_client (past ▸ now) c (running (past ▸ now))) ≤ most }
+    // however much is seen later, while there is such a limit
+    ensures throughout { (setting : ℕ) (plan : List Bool) (past later : List Moment) (c most : ℕ) →
+        IsPooled setting plan (later ++ past) → AtEveryBeginning (λ before. is_below (client_limit (before ++ past)) most ≡ false) later →
+        length (of_client past c (running past)) ≤ most →
+        length (of_client (later ++ past) c (running (later ++ past))) ≤ most }
+    // so no client has more running than a limit that was set while no job ran, as long as it stands
+    ensures from_rest { (setting : ℕ) (plan : List Bool) (past later : List Moment) (c most : ℕ) →
+        IsPooled setting plan (later ++ past) → AtEveryBeginning (λ before. client_limit (before ++ past) ≡ Some most) later →
+        running past ≡ [] →
+        length (of_client (later ++ past) c (running (later ++ past))) ≤ most }
 {}
 
 /// A wake puts a parked job back and flags a running one as woken; any other it leaves as it is.
