@@ -67,10 +67,13 @@ fn add_both<H: Host>(rt: H, executor: &Executor<Meet, H>) -> io::Result<Option<(
         other: one,
         stays: false,
     };
-    Ok(match (executor.add(first), executor.add(second)) {
-        (Ok(first), Ok(second)) => Some((first.number(), second.number())),
-        _ => None,
-    })
+    let Ok(first) = executor.add(first) else {
+        return Ok(None);
+    };
+    let Ok(second) = executor.add(second) else {
+        return Ok(None);
+    };
+    Ok(Some((first.number(), second.number())))
 }
 
 // Whether both jobs come to wait. The worker that ran the last looks for a job then, for a moment.
