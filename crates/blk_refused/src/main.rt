@@ -9,6 +9,7 @@
 //! | `calls N`, `clients N` | N calls are made before the first is answered; each for a client of its own, of which one job may run |
 //! | `begins KIND [OLDER]` | a session of this kind begins; behind an older one, which it stops first |
 //! | `passes CLIENTS ROUNDS` | so many clients come with a job each, and go, so many times, each time others |
+//! | `halves ROUNDS` | so many copies are left halfway, one after another |
 //! | `whole` | a read to the end |
 //! | `ends KIND`, `sweeps KIND`, `stops KIND`, `drops KIND` | a session, which has begun, comes to its end, does so while its pool is swept again and again, is stopped, or loses its owner, while all is refused |
 //! | `inside KIND`, `short KIND`, `gone KIND` | many owners, whose jobs wait, leave where the one worker is inside a call and there may be no other, where another may be asked for, or where none is left |
@@ -16,6 +17,7 @@
 #![tactic(auto)]
 
 mod calls;
+mod halves;
 mod handle;
 mod kind;
 mod kinds;
@@ -66,6 +68,7 @@ enum Scenario {
     Calls(u64),
     Clients(u64),
     Passes(u32, u32),
+    Halves(u32),
     Begins(Kind, Option<Kind>),
     Whole,
     Runs(Kind, End),
@@ -80,6 +83,7 @@ impl Scenario {
             "calls" => Scenario::Calls(first.parse().ok()?),
             "clients" => Scenario::Clients(first.parse().ok()?),
             "passes" => Scenario::Passes(first.parse().ok()?, second?.parse().ok()?),
+            "halves" => Scenario::Halves(first.parse().ok()?),
             "begins" => Scenario::Begins(
                 Kind::by_name(first)?,
                 match second {
@@ -108,6 +112,7 @@ impl Scenario {
             Scenario::Calls(count) => calls::calls(rt, count),
             Scenario::Clients(count) => calls::clients(rt, count),
             Scenario::Passes(clients, rounds) => passing::passes(rt, clients, rounds),
+            Scenario::Halves(rounds) => halves::halves(rt, rounds),
             Scenario::Leaves => calls::leaves(rt),
             Scenario::Begins(..) | Scenario::Whole | Scenario::Runs(..) | Scenario::Left(..) => {
                 // (one worker at most, which isn't started yet)
@@ -132,6 +137,7 @@ impl Scenario {
             | Scenario::Calls(_)
             | Scenario::Clients(_)
             | Scenario::Passes(..)
+            | Scenario::Halves(_)
             | Scenario::Leaves => Ok(None),
         }
     }
