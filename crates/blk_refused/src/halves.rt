@@ -7,7 +7,7 @@ use blocking::{
 };
 use futures::Future;
 use futures::executor::block_on;
-use futures::test::MockTask;
+use futures::task::{Context, Poll};
 use std::io::{Read, Write};
 use std::sync::Arc;
 use std::{io, thread};
@@ -115,37 +115,50 @@ impl Moment {
     }
 }
 
-// Polls a copy up to this moment, and drops it then. Whether it came to that.
-fn leave<A: AsyncRead + Drop, B: AsyncWrite + Drop>(
-    mock: &MockTask,
-    mut copier: Copier<A, B>,
+// A copy that is left once a poll of it waits with so many bytes written. It gives whether it came to that.
+#[derive(Drop)]
+struct LeftCopy<A, B> {
+    copier: Copier<A, B>,
+    wanted: u64,
+}
+
+impl<A: AsyncRead + Drop, B: AsyncWrite + Drop> Future for LeftCopy<A, B> {
+    type Output = bool;
+
+    ghost can_poll = { λ copy. ⟦<Copier<A, B> as Future>⟧.can_poll copy.copier };
+
+    ghost gives = { λ _ _. Unit {0} };
+
+    fn poll(&mut self, cx: &mut Context<'_>) -> Poll<bool> {
+        match self.copier.poll(cx) {
+            Poll::Ready(_) => Poll::Ready(false),
+            Poll::Pending if self.copier.copied() >= self.wanted => Poll::Ready(true),
+            Poll::Pending => Poll::Pending,
+        }
+    }
+}
+
+// Leaves a copy at this moment. Whether it came to that.
+fn leave<A: AsyncRead + Drop, B: AsyncWrite + Drop, H: Host>(
+    rt: H,
+    copier: Copier<A, B>,
     moment: Moment,
-) -> bool
+) -> io::Result<bool>
     requires { ⟦<Copier<A, B> as Future>⟧.can_poll copier }
 {
     let wanted = match moment {
-        Moment::Begin => return true,
+        Moment::Begin => return Ok(true),
         Moment::Waits => 0,
         Moment::Wrote(bytes) => bytes,
     };
-    for _ in 0..LOOKS {
-        if mock.poll(&mut copier).is_ready() {
-            return false;
-        }
-        if copier.copied() >= wanted {
-            return true;
-        }
-        thread::yield_now();
-    }
-    false
+    Ok(block_on(&rt, LeftCopy { copier, wanted })?)
 }
 
-// The pool to which the handles are lent, their gate, and the task that polls the copies.
+// The pool to which the handles are lent, and their gate.
 #[derive(Drop)]
 struct Lender<J: Job, H: Host> {
     rt: H,
     gate: Arc<Gate>,
-    mock: MockTask,
     executor: Executor<J, H>,
 }
 
@@ -170,7 +183,7 @@ impl<
         let reader: Reader<Byte, H, J> = Unblock::with_capacity(CAPACITY, readers, input);
         let writer: Writer<Byte, H, J> = Unblock::with_capacity(CAPACITY, writers, output);
         let copier = Copier::new(self.rt.alloc(), reader, writer, PIECE)?;
-        Ok(leave(&self.mock, copier, moment))
+        leave(self.rt, copier, moment)
     }
 
     // Whether before long no handle is left.
@@ -214,17 +227,11 @@ impl<
 /// Leaves so many copies halfway, one after another. What of it is wrong, if anything is. (`scripts/peaks` looks at how much memory that took.)
 pub(crate) fn halves<H: Host>(rt: H, rounds: u32) -> io::Result<Option<&'static str>> {
     let gate = Arc::new(rt.alloc(), Gate::new())?;
-    let mock = MockTask::new(&rt)?;
     let executor: Executor<Work<H>, H> = match Executor::new(rt, Some(LIMIT)) {
         Ok(executor) => executor,
         Err(_) => return Ok(Some("there is no executor")),
     };
-    let lender = Lender {
-        rt,
-        gate,
-        mock,
-        executor,
-    };
+    let lender = Lender { rt, gate, executor };
     Ok(if !lender.leaves_all(rounds)? {
         Some("a copy isn't left, or its handles or jobs stay")
     } else if !lender.answers(rounds)? {
