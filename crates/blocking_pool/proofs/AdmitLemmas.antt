@@ -13,7 +13,7 @@ use Rattle.std.specs.FinMap.{get, len, get-from_entries}
 use Rattle.blocking_pool.specs.Growth.{greatest}
 use Rattle.blocking_pool.specs.Lists.{is_in, IsOnce}
 use Rattle.blocking_pool.specs.Heads.{Head, times}
-use Rattle.blocking_pool.specs.ClientTable.{Known, stranger, AreAll}
+use Rattle.blocking_pool.specs.ClientTable.{Known, no_client, AreAll}
 use Rattle.blocking_pool.specs.Lines.{places_of, AreLined}
 use Rattle.blocking_pool.specs.Hangs.{one_if, is_some_line, Leads, Hangs}
 use Rattle.blocking_pool.specs.QueueForm.{client_by, number_by, after_by, admits, is_open_at, line_at, line_by, head_of, heads_of, ready_at, ready_among, Fits}
@@ -129,7 +129,7 @@ few_heads number is_open spots known line heads rows one_each led =
     leads_known d n leads = from (get known d) refl
       where
         from : (o : Option Client) → get known d ≡ o → is_some (get known d) ≡ true
-        from None is = absurd (subst (λ ps. Leads number ps n) (rows d ∙ ap (λ (o : Option Client). places_of (after_by spots) (unwrap_or o stranger).line) is) leads)
+        from None is = absurd (subst (λ ps. Leads number ps n) (rows d ∙ ap (λ (o : Option Client). places_of (after_by spots) (unwrap_or o no_client).line) is) leads)
         from (Some k) is = ap is_some is
 
     known_so : (d : ℕ) → is_in d (map (λ (o : Head). o.1) heads) ≡ true → is_some (get known d) ≡ true
@@ -177,7 +177,7 @@ module _ (places : List ℕ) (spots : List Spot) (known : Known) (room next : �
     got c = ap (λ k. get k c) all.known_are ∙ get-from_entries nat_cmp_total es c ∙ find_lookup c es
 
     rows : (c : ℕ) (k : Client) → lookup (eqb c) es ≡ Some k → line_by spots known c ≡ places_of (after_by spots) k.line
-    rows c k there = ap (λ (o : Option Client). places_of (after_by spots) (unwrap_or o stranger).line) (got c ∙ there)
+    rows c k there = ap (λ (o : Option Client). places_of (after_by spots) (unwrap_or o no_client).line) (got c ∙ there)
 
     made : Hangs (client_by spots) (number_by spots) (open_among limit es) places (line_by spots known) (heads_of (number_by spots) limit es) next (ready_among limit es)
     made = all_admitted (client_by spots) (number_by spots) places (line_by spots known) next queue.base (after_by spots) limit es all.once rows
@@ -186,7 +186,7 @@ module _ (places : List ℕ) (spots : List Spot) (known : Known) (room next : �
     fits_anew small =
         record {
           firsts = each_client (λ c k. 0 < k.line.len → k.line.first < length spots) es all.once
-              (λ c k there. subst (λ (x : Client). 0 < x.line.len → x.line.first < length spots) (ap (λ (o : Option Client). unwrap_or o stranger) (got c ∙ there)) (first_below (after_by spots) (length spots) (line_at known) queue.lined c));
+              (λ c k there. subst (λ (x : Client). 0 < x.line.len → x.line.first < length spots) (ap (λ (o : Option Client). unwrap_or o no_client) (got c ∙ there)) (first_below (after_by spots) (length spots) (line_at known) queue.lined c));
           seats = heads_fit (open_among limit es) (heads_of (number_by spots) limit es) (ready_among limit es) made;
           count = (let short = ready_short (open_among limit es) (heads_of (number_by spots) limit es) (ready_among limit es) made in omega (arith, short, small));
         }
@@ -200,5 +200,5 @@ module _ (places : List ℕ) (spots : List Spot) (known : Known) (room next : �
         (λ c some. flag c some (get known c) refl) (λ c. refl) order)
       where
         flag : (c : ℕ) → is_some_line (line_by spots known c) ≡ true → (o : Option Client) → get known c ≡ o → is_open_at limit known c ≡ open_among limit es c
-        flag c some None none = absurd (false≢true (ap (λ (o : Option Client). is_some_line (places_of (after_by spots) (unwrap_or o stranger).line)) (sym none) ∙ some))
-        flag c some (Some k) is = ap (λ (o : Option Client). admits limit (unwrap_or o stranger).running) is ∙ ap (open_in limit) (sym is ∙ got c)
+        flag c some None none = absurd (false≢true (ap (λ (o : Option Client). is_some_line (places_of (after_by spots) (unwrap_or o no_client).line)) (sym none) ∙ some))
+        flag c some (Some k) is = ap (λ (o : Option Client). admits limit (unwrap_or o no_client).running) is ∙ ap (open_in limit) (sym is ∙ got c)

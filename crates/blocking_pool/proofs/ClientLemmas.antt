@@ -10,7 +10,7 @@ use Rattle.std.specs.Map.{keys_of, lookup}
 use Rattle.std.specs.FinMap.{FinMap, find, get, insert, remove, entries, from_entries, len, get-entries, get-from_entries, get-insert, get-remove, get-empty, len-insert, len-remove, len-empty, empty_of_len, same_map, nat_cmp-IsAntisymmetric}
 use Rattle.blocking_pool.specs.Lists.{is_in, IsOnce}
 use Rattle.blocking_pool.specs.Clients.{tally_at, no_jobs}
-use Rattle.blocking_pool.specs.ClientTable.{Known, client_at, stranger, Clients, Forgets, AreNamed}
+use Rattle.blocking_pool.specs.ClientTable.{Known, client_at, no_client, Clients, Forgets, AreNamed}
 use Rattle.blocking_pool.specs.QueueForm.{tally_of, tallies_of}
 use Rattle.blocking_pool.specs.declared.pool.clients.Client.{Client}
 use Rattle.blocking_pool.proofs.Lists.{by_eq, turned, eq_by_nat_cmp, is_in-first}
@@ -36,9 +36,9 @@ pub get_gone : {X : Type 0} (m : FinMap nat_cmp X) (k q : ℕ) → get (remove m
 get_gone m k q = get-remove nat_cmp_total m k q ∙ ap (λ b. cond b None (get m q)) (eq_by_nat_cmp q k)
 
 pub client_set : (known : Known) (c : ℕ) (client : Client) (q : ℕ) → client_at (insert known c client) q ≡ cond (eqb q c) client (client_at known q)
-client_set known c client q = ap (λ o. unwrap_or o stranger) (get_set known c client q) ∙ by (eqb q c)
+client_set known c client q = ap (λ o. unwrap_or o no_client) (get_set known c client q) ∙ by (eqb q c)
   where
-    by : (b : Bool) → unwrap_or (cond b (Some client) (get known q)) stranger ≡ cond b client (client_at known q)
+    by : (b : Bool) → unwrap_or (cond b (Some client) (get known q)) no_client ≡ cond b client (client_at known q)
     by true = refl
     by false = refl
 
@@ -109,7 +109,7 @@ few_known (x ∷ xs) m once known =
 
 pub named_are : (known : Known) (es : List (ℕ × Client)) (unnamed : Client) → known_of es unnamed ≡ known → lookup (eqb 0) es ≡ None → IsDistinct eqb (keys_of es) → AreNamed known es
 named_are known es unnamed is none apart =
-    let first : client_at known 0 ≡ unnamed = ap (λ k. client_at k 0) (sym is) ∙ ap (λ o. unwrap_or o stranger) (get_known es unnamed 0) in
+    let first : client_at known 0 ≡ unnamed = ap (λ k. client_at k 0) (sym is) ∙ ap (λ o. unwrap_or o no_client) (get_known es unnamed 0) in
     record {
       known_are = sym is ∙ ap (insert (from_entries es) 0) (sym first);
       once = (among 0 es none, once_from (keys_of es) apart);
@@ -154,7 +154,7 @@ get_tally known c = get-from_entries nat_cmp_total (map (λ e. (e.0, tally_of e.
 pub tally_is : (known : Known) (c : ℕ) → tally_at (tallies_of known) c ≡ tally_of (client_at known c)
 tally_is known c = ap (λ o. unwrap_or o no_jobs) (get_tally known c) ∙ by (get known c)
   where
-    by : (o : Option Client) → unwrap_or (option_map tally_of o) no_jobs ≡ tally_of (unwrap_or o stranger)
+    by : (o : Option Client) → unwrap_or (option_map tally_of o) no_jobs ≡ tally_of (unwrap_or o no_client)
     by None = refl
     by (Some client) = refl
 
@@ -177,16 +177,15 @@ module _ (known : Known) (es : List (ℕ × Client)) (unnamed : Client) (is : kn
   pub got_named : c ≢ 0 → get known c ≡ lookup (eqb c) es
   got_named named = got ∙ ap (λ b. cond b (Some unnamed) (lookup (eqb c) es)) (ne_eqb c 0 named)
 
--- client 0 is a stranger now
-pub forgets_zero : (seen : Clients) (es : List (ℕ × Client)) (unnamed : Client) (spare c : ℕ) → ◌≡◌ {A = Clients} (record { known = known_of es unnamed; spare = spare }) seen → c ≡ 0
-    → lookup (eqb 0) es ≡ None → IsDistinct eqb (keys_of es) → Forgets seen (record { known = known_of es stranger; spare = spare }) c
-forgets_zero seen es unnamed spare c is zero_is none apart =
-    let same : known_of es unnamed ≡ seen.known = ap (λ (v : Clients). v.known) is in
-    record {
-      states = λ q. ap (λ k. client_at k q) (set_unnamed es unnamed stranger ∙ ap (λ k. insert k 0 stranger) same) ∙ client_set seen.known 0 stranger q
-          ∙ ap (λ k. cond (eqb q k) stranger (client_at seen.known q)) (sym zero_is);
-      fewer = (let new = len_known es stranger none apart in let old = len_known es unnamed none apart in let as_seen = ap len same in omega (arith, new, old, as_seen));
-    }
+-- what is known of client 0 changes
+module _ (seen : Clients) (es : List (ℕ × Client)) (unnamed : Client) (spare c : ℕ) (is : ◌≡◌ {A = Clients} (record { known = known_of es unnamed; spare = spare }) seen) (zero_is : c ≡ 0) where
+  pub unnamed_is : client_at seen.known c ≡ unnamed
+  unnamed_is = ap (λ o. unwrap_or o no_client) (got_zero seen.known es unnamed (ap (λ (v : Clients). v.known) is) c zero_is)
+
+  pub unnamed_set : (client : Client) (change : Client → Client) → client ≡ change unnamed → known_of es client ≡ insert seen.known c (change (client_at seen.known c))
+  unnamed_set client change same =
+      set_unnamed es unnamed client ∙ ap (λ (v : Clients). insert v.known 0 client) is ∙ ap (λ k. insert seen.known k client) (sym zero_is)
+      ∙ ap (insert seen.known c) (same ∙ ap change (sym unnamed_is))
 
 -- a client of another name is no longer known
 pub forgets_named : (seen : Clients) (es fs : List (ℕ × Client)) (unnamed : Client) (spare more c gone : ℕ) → ◌≡◌ {A = Clients} (record { known = known_of es unnamed; spare = spare }) seen → c ≢ 0
@@ -195,12 +194,12 @@ pub forgets_named : (seen : Clients) (es fs : List (ℕ × Client)) (unnamed : C
 forgets_named seen es fs unnamed spare more c gone is named none apart none_still apart_still left count =
     let same : known_of es unnamed ≡ seen.known = ap (λ (v : Clients). v.known) is in
     record {
-      states = λ q. ap (λ o. unwrap_or o stranger) (get_known fs unnamed q ∙ ap (cond (eqb q 0) (Some unnamed)) (left q ∙ ap (λ b. cond b None (lookup (eqb q) es)) (turned c q)))
-          ∙ by q ∙ ap (λ k. cond (eqb q c) stranger (client_at k q)) same;
+      states = λ q. ap (λ o. unwrap_or o no_client) (get_known fs unnamed q ∙ ap (cond (eqb q 0) (Some unnamed)) (left q ∙ ap (λ b. cond b None (lookup (eqb q) es)) (turned c q)))
+          ∙ by q ∙ ap (λ k. cond (eqb q c) no_client (client_at k q)) same;
       fewer = (let new = len_known fs unnamed none_still apart_still in let old = len_known es unnamed none apart in let as_seen = ap len same in omega (arith, new, old, as_seen, count));
     }
   where
-    by : (q : ℕ) → unwrap_or (cond (eqb q 0) (Some unnamed) (cond (eqb q c) None (lookup (eqb q) es))) stranger ≡ cond (eqb q c) stranger (client_at (known_of es unnamed) q)
-    by q = by_eq q c (λ b. unwrap_or (cond (eqb q 0) (Some unnamed) (cond b None (lookup (eqb q) es))) stranger ≡ cond b stranger (client_at (known_of es unnamed) q))
-        (λ same. ap (λ b. unwrap_or (cond b (Some unnamed) None) stranger) (ne_eqb q 0 (λ e. named (sym same ∙ e))))
-        (λ differs. ap (λ o. unwrap_or o stranger) (sym (get_known es unnamed q)))
+    by : (q : ℕ) → unwrap_or (cond (eqb q 0) (Some unnamed) (cond (eqb q c) None (lookup (eqb q) es))) no_client ≡ cond (eqb q c) no_client (client_at (known_of es unnamed) q)
+    by q = by_eq q c (λ b. unwrap_or (cond (eqb q 0) (Some unnamed) (cond b None (lookup (eqb q) es))) no_client ≡ cond b no_client (client_at (known_of es unnamed) q))
+        (λ same. ap (λ b. unwrap_or (cond b (Some unnamed) None) no_client) (ne_eqb q 0 (λ e. named (sym same ∙ e))))
+        (λ differs. ap (λ o. unwrap_or o no_client) (sym (get_known es unnamed q)))

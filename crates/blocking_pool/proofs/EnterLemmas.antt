@@ -14,7 +14,7 @@ use Rattle.blocking_pool.specs.ClientTable.{Known, client_at}
 use Rattle.blocking_pool.specs.Lines.{AreLined}
 use Rattle.blocking_pool.specs.Hangs.{one_if, is_some_line, Hangs}
 use Rattle.blocking_pool.specs.Queue.{Queue, Holds}
-use Rattle.blocking_pool.specs.QueueForm.{tally_of, client_by, number_by, after_by, admits, is_open_at, line_at, line_by, longer, Appends, Renumbers, IsQueue}
+use Rattle.blocking_pool.specs.QueueForm.{tally_of, client_by, number_by, after_by, admits, is_open_at, line_at, line_by, longer, Appends, Renumbers, IsLined}
 use Rattle.blocking_pool.specs.declared.pool.clients.Line.{Line}
 use Rattle.blocking_pool.specs.declared.pool.clients.Client.{Client}
 use Rattle.blocking_pool.specs.declared.pool.queue.Spot.{Spot}
@@ -30,7 +30,7 @@ use Rattle.blocking_pool.proofs.QueueLemmas.{seen_as, owner_seen}
 abbrev pub new_head : Bool → Line → ℕ → ℕ → List Head
 new_head may_run line number c = cond (may_run && eqb line.len 0) ((number, c) ∷ []) []
 
-module _ (places : Chain) (spots : List Spot) (known : Known) (heads : Heads) (limit : Option ℕ) (ready next : ℕ) (queue : IsQueue places spots known heads limit ready next)
+module _ (places : Chain) (spots : List Spot) (known : Known) (heads : Heads) (limit : Option ℕ) (ready next : ℕ) (queue : IsLined places spots known heads limit ready next)
     (place c : ℕ) (state : Client) (got : state ≡ client_at known c) where
   pub end_within : 0 < state.line.len → state.line.last < length spots
   end_within some = subst (λ (k : Client). k.line.last < length spots) (sym got) (last_below (after_by spots) (length spots) (line_at known) queue.lined c (subst (λ (k : Client). 0 < k.line.len) got some))
@@ -144,12 +144,12 @@ module _ (places : Chain) (spots : List Spot) (known : Known) (heads : Heads) (l
           subst (λ b. ready + one_if b ≤ length now) flag short
 
       pub came_queue : (chain : Chain) (heads_now : Heads) (grown : ℕ) → chain ≡ record places { places = places.places ++ place ∷ [] } → IsPermutation (new_head (admits limit state.running) state.line next c ++ heads.heads) heads_now.heads
-          → heads.room ≤ heads_now.room → grown ≡ one_if (admits limit state.running) → next + 1 < greatest → IsQueue chain now more heads_now limit (ready + grown) (next + 1)
+          → heads.room ≤ heads_now.room → grown ≡ one_if (admits limit state.running) → next + 1 < greatest → IsLined chain now more heads_now limit (ready + grown) (next + 1)
       came_queue chain heads_now grown entered_is order wider count left =
           let order : IsPermutation (new_head (is_open_at limit known c) (line_at known c) next c ++ heads.heads) heads_now.heads =
           subst (λ (k : Client). IsPermutation (new_head (admits limit k.running) k.line next c ++ heads.heads) heads_now.heads) got order in
           let base = came_base heads_now.room wider in
-          subst (λ (q : Chain). IsQueue q now more heads_now limit (ready + grown) (next + 1)) (sym entered_is)
+          subst (λ (q : Chain). IsLined q now more heads_now limit (ready + grown) (next + 1)) (sym entered_is)
           (record {
             hangs = subst (λ n. Hangs (client_by now) (number_by now) (is_open_at limit more) (places.places ++ place ∷ []) (line_by now more) heads_now.heads (next + 1) n)
                 (ap (λ n. ready + n) (ap one_if flag ∙ sym count)) (came heads_now.heads order);

@@ -344,47 +344,6 @@ all_shut client number is_open shut queue line heads next ready h closed =
       counted = ap length (sym (none_ready shut client number queue (λ d o. absurd (false≢true (sym (closed d) ∙ o)))));
     }
 
--- ---- a take where no client limit is set: no client is open, and the front of the queue is the first of its client's line
-
-pub front_begins : (client number : ℕ → ℕ) (is_open : ℕ → Bool) (queue : List ℕ) (line : ℕ → List ℕ) (heads : List Head) (next ready place : ℕ) → Hangs client number is_open queue line heads next ready
-    → first_of queue ≡ Some place → first_of (line (client place)) ≡ Some place
-front_begins client number is_open [] line heads next ready place h first = absurd (cc)
-front_begins client number is_open (q ∷ qs) line heads next ready place h first =
-    let same : q ≡ place = cc in
-    ap first_of (h.line_is (client place)) ∙ subst (λ p. first_of (line_of client (client p) (q ∷ qs)) ≡ Some p) same
-    (ap (λ b. first_of (cond b (q ∷ line_of client (client q) qs) (line_of client (client q) qs))) (eq-eqb (client q) (client q) refl))
-
-module _ (client number : ℕ → ℕ) (is_open : ℕ → Bool) (queue : List ℕ) (line : ℕ → List ℕ) (heads : List Head) (next ready : ℕ)
-    (h : Hangs client number is_open queue line heads next ready) (place : ℕ) (rest : List ℕ) (begins : line (client place) ≡ place ∷ rest) (shut : is_open (client place) ≡ false) where
-  pub front_taken : (lines : ℕ → List ℕ) → lines (client place) ≡ rest → ((d : ℕ) → d ≢ client place → lines d ≡ line d) → Hangs client number is_open (without place queue) lines heads next ready
-  front_taken lines line_here line_else =
-      record {
-        once = IsOnce-without place queue h.once;
-        line_is = λ d. elim (cases_eq d (client place)) [
-          | inl e ↦ ap lines e ∙ line_here ∙ sym (without-first place rest unseen) ∙ ap (without place) (sym begins ∙ h.line_is (client place))
-              ∙ filters_swap (λ x. not (eqb place x)) (λ x. eqb (client x) (client place)) queue ∙ ap (λ k. line_of client k (without place queue)) (sym e)
-          | inr m ↦ line_else d m ∙ h.line_is d ∙ sym (without-fresh place (line_of client d queue) (elsewhere d m)) ∙ filters_swap (λ x. not (eqb place x)) (λ x. eqb (client x) d) queue
-        ];
-        rises = rises_filter number (λ x. not (eqb place x)) queue h.rises;
-        below = λ p there. h.below p (is_in-filter (λ x. not (eqb place x)) p queue there);
-        one_each = λ d. h.one_each d ∙ elim (cases_eq d (client place)) [
-          | inl e ↦ ap (λ b. one_if (b && is_some_line (line d))) (ap is_open e ∙ shut) ∙ ap (λ b. one_if (b && is_some_line (lines d))) (sym (ap is_open e ∙ shut))
-          | inr m ↦ ap (λ ps. one_if (is_open d && is_some_line ps)) (sym (line_else d m))
-        ];
-        led = all_by (λ o. (o.1 ≢ client place) × Leads number (line o.1) o.0) (λ o. Leads number (lines o.1) o.0) heads (λ o both. subst (λ ps. Leads number ps o.0) (sym (line_else o.1 both.0)) both.1)
-            (none_of (client place) (λ o. Leads number (line o.1) o.0) heads h.led (h.one_each (client place) ∙ ap (λ b. one_if (b && is_some_line (line (client place)))) shut));
-        counted = h.counted ∙ ap length (sym (without-fresh place (ready_of is_open client queue) gone) ∙ filters_swap (λ x. not (eqb place x)) (λ x. is_open (client x)) queue);
-      }
-    where
-      unseen : is_in place rest ≡ false
-      unseen = (subst IsOnce (sym (h.line_is (client place)) ∙ begins) (once_filter (λ p. eqb (client p) (client place)) queue h.once)).0
-
-      elsewhere : (d : ℕ) → d ≢ client place → is_in place (line_of client d queue) ≡ false
-      elsewhere d m = not_true _ (λ f. m (sym (eq_from (client place) d (kept (λ p. eqb (client p) d) place queue f))))
-
-      gone : is_in place (ready_of is_open client queue) ≡ false
-      gone = not_true _ (λ f. false≢true (sym shut ∙ kept (λ p. is_open (client p)) place queue f))
-
 -- ---- a client whose last job is gone is closed
 
 pub given_up : (client number : ℕ → ℕ) (is_open shut : ℕ → Bool) (queue : List ℕ) (line : ℕ → List ℕ) (heads : List Head) (next ready c : ℕ) → Hangs client number is_open queue line heads next ready

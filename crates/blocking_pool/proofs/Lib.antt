@@ -6,8 +6,10 @@ pub mod EnterLemmas
 pub mod GrowthLemmas
 pub mod HangLemmas
 pub mod HeadLemmas
+pub mod KeptLemmas
 pub mod LimitLemmas
 pub mod LineLemmas
+pub mod LineUpLemmas
 pub mod Lists
 pub mod NumberLemmas
 pub mod OpenLemmas

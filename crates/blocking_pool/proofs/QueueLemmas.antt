@@ -13,11 +13,11 @@ use Rattle.blocking_pool.specs.Lists.{is_in}
 use Rattle.blocking_pool.specs.Chain.{Chain}
 use Rattle.blocking_pool.specs.Heads.{Heads}
 use Rattle.blocking_pool.specs.Clients.{Tally, tally_at, is_below, has_room_at, discharged}
-use Rattle.blocking_pool.specs.ClientTable.{Known, client_at, stranger}
+use Rattle.blocking_pool.specs.ClientTable.{Known, client_at, no_client}
 use Rattle.blocking_pool.specs.Lines.{places_of}
 use Rattle.blocking_pool.specs.Hangs.{line_of, ready_of, Hangs}
 use Rattle.blocking_pool.specs.Queue.{Queue, ready_in, line_in, has_seat, Tallied}
-use Rattle.blocking_pool.specs.QueueForm.{tally_of, tallies_of, nowhere, client_by, number_by, after_by, admits, is_open_at, line_at, line_by, IsQueue}
+use Rattle.blocking_pool.specs.QueueForm.{tally_of, tallies_of, nowhere, client_by, number_by, after_by, admits, is_open_at, line_at, line_by, IsLined}
 use Rattle.blocking_pool.specs.declared.pool.clients.Line.{Line}
 use Rattle.blocking_pool.specs.declared.pool.clients.Client.{Client}
 use Rattle.blocking_pool.specs.declared.pool.queue.Spot.{Spot}
@@ -70,11 +70,11 @@ tallied_by places spots known more limit spare left c client change states is =
 -- ---- who is known
 
 -- a client of which something is counted is known
-pub known_by : (known : Known) (c : ℕ) (count : Client → ℕ) → count stranger ≡ 0 → 0 < count (client_at known c) → is_some (get known c) ≡ true
+pub known_by : (known : Known) (c : ℕ) (count : Client → ℕ) → count no_client ≡ 0 → 0 < count (client_at known c) → is_some (get known c) ≡ true
 known_by known c count none some = from (get known c) refl
   where
     from : (o : Option Client) → get known c ≡ o → is_some (get known c) ≡ true
-    from None is = absurd (let z : count (client_at known c) ≡ 0 = ap (λ (o : Option Client). count (unwrap_or o stranger)) is ∙ none in omega (arith, z, some))
+    from None is = absurd (let z : count (client_at known c) ≡ 0 = ap (λ (o : Option Client). count (unwrap_or o no_client)) is ∙ none in omega (arith, z, some))
     from (Some client) is = ap is_some is
 
 -- to set it again takes no room
@@ -100,7 +100,7 @@ seats_set known c spare room client seat most = from (is_some (get known c)) ref
 
 -- ---- what every queue has
 
-module _ (places : Chain) (spots : List Spot) (known : Known) (heads : Heads) (limit : Option ℕ) (ready next : ℕ) (queue : IsQueue places spots known heads limit ready next) where
+module _ (places : Chain) (spots : List Spot) (known : Known) (heads : Heads) (limit : Option ℕ) (ready next : ℕ) (queue : IsLined places spots known heads limit ready next) where
   -- what is ready is counted, where a limit is set
   pub ready_counted : (spare most : ℕ) → limit ≡ Some most → ready ≡ length (ready_in (seen_as places.places spots known limit spare))
   ready_counted spare most is = queue.hangs.counted ∙ ap length (sym (ready_seen places.places spots known limit spare most is))
@@ -108,7 +108,7 @@ module _ (places : Chain) (spots : List Spot) (known : Known) (heads : Heads) (l
   -- something of a client changes, but neither its line nor whether it is open
   pub changed : (more : Known) (c : ℕ) (client : Client) → ((q : ℕ) → client_at more q ≡ cond (eqb q c) client (client_at known q)) → places_of (after_by spots) client.line ≡ line_by spots known c
       → (0 < client.line.len → client.line.last ≡ (line_at known c).last) → admits limit client.running ≡ is_open_at limit known c → (0 < length spots → len more ≤ heads.room)
-      → IsQueue places spots more heads limit ready next
+      → IsLined places spots more heads limit ready next
   changed more c client states row last flag seats =
       record {
         hangs = said (client_by spots) (number_by spots) (is_open_at limit known) places.places (line_by spots known) heads.heads next ready queue.hangs
@@ -137,7 +137,7 @@ module _ (places : Chain) (spots : List Spot) (known : Known) (heads : Heads) (l
 
   -- the same, where the client is set
   pub changed_set : (more : Known) (c : ℕ) (state client : Client) → state ≡ client_at known c → more ≡ insert known c client → client.line ≡ state.line → admits limit client.running ≡ admits limit state.running
-      → (0 < length spots → len more ≤ heads.room) → IsQueue places spots more heads limit ready next
+      → (0 < length spots → len more ≤ heads.room) → IsLined places spots more heads limit ready next
   changed_set more c state client got is line flag seats =
       let same : client.line ≡ line_at known c = line ∙ ap (λ (k : Client). k.line) got in
       changed more c client (λ q. ap (λ k. client_at k q) is ∙ client_set known c client q) (ap (places_of (after_by spots)) same) (λ _. ap (λ (l : Line). l.last) same)
@@ -146,7 +146,7 @@ module _ (places : Chain) (spots : List Spot) (known : Known) (heads : Heads) (l
   -- there is more room
   pub widened : (places_now : Chain) (spots_now : List Spot) (heads_now : Heads) → places_now.places ≡ places.places → heads_now.heads ≡ heads.heads
       → ((p : ℕ) → get_or spots_now p nowhere ≡ get_or spots p nowhere) → length spots ≤ length spots_now → length spots_now ≤ places_now.room → len known ≤ heads_now.room
-      → IsQueue places_now spots_now known heads_now limit ready next
+      → IsLined places_now spots_now known heads_now limit ready next
   widened places_now spots_now heads_now same_places same_heads same longer room seats =
       let rows : (c : ℕ) → line_by spots_now known c ≡ line_by spots known c =
       λ c. walk_same (after_by spots) (after_by spots_now) (line_at known c).len (line_at known c).first (λ p _. ap (λ (s : Spot). s.after) (same p)) in
@@ -195,10 +195,10 @@ pub line_seen : (queue : Queue) (places : List ℕ) (spots : List Spot) (known :
 line_seen queue places spots known limit spare c is = ap (λ (q : Queue). line_in q c) (sym is) ∙ filter_agree _ _ (λ p. ap (λ k. eqb k c) (owner_seen spots p)) places
 
 -- the last job of a client is over
-module _ (places : Chain) (spots : List Spot) (known : Known) (heads : Heads) (limit : Option ℕ) (ready next : ℕ) (queue : IsQueue places spots known heads limit ready next)
+module _ (places : Chain) (spots : List Spot) (known : Known) (limit : Option ℕ)
     (old : Queue) (spare c : ℕ) (state : Client) (seen : seen_as places.places spots known limit spare ≡ old) (got : state ≡ client_at known c) (last : state.jobs ≡ 1)
     (idle : (tally_at old.tallies c).jobs ≡ 1 → (tally_at old.tallies c).running ≡ 0) (none_queued : (tally_at old.tallies c).jobs ≡ 1 → line_in old c ≡ []) (more : Known)
-    (states : (q : ℕ) → client_at more q ≡ cond (eqb q c) stranger (client_at known q)) where
+    (states : (q : ℕ) → client_at more q ≡ cond (eqb q c) no_client (client_at known q)) where
   tally : tally_at old.tallies c ≡ tally_of state
   tally = tally_seen old places.places spots known limit spare c state seen got
 
@@ -208,9 +208,9 @@ module _ (places : Chain) (spots : List Spot) (known : Known) (heads : Heads) (l
   no_running : state.running ≡ 0
   no_running = ap (λ (t : Tally). t.running) (sym tally) ∙ idle one
 
-  pub given_up : len more ≤ len known → IsQueue places spots more heads limit ready next
-  given_up fewer =
-      changed places spots known heads limit ready next queue more c stranger states
+  pub given_up : (heads : Heads) (ready next : ℕ) → IsLined places spots known heads limit ready next → len more ≤ len known → IsLined places spots more heads limit ready next
+  given_up heads ready next queue fewer =
+      changed places spots known heads limit ready next queue more c no_client states
       (sym (queue.hangs.line_is c ∙ sym (line_seen old places.places spots known limit spare c seen) ∙ none_queued one)) (λ bad. absurd (omega (arith, bad)))
       (ap (admits limit) (sym no_running) ∙ ap (λ (k : Client). admits limit k.running) got)
       (λ some. (let most = queue.seats some in omega (arith, most, fewer)))
@@ -218,12 +218,12 @@ module _ (places : Chain) (spots : List Spot) (known : Known) (heads : Heads) (l
   pub gave_up : (left : ℕ) → Tallied old (seen_as places.places spots more limit left) c discharged
   gave_up left =
       subst (λ (q : Queue). Tallied q (seen_as places.places spots more limit left) c discharged) seen
-      (tallied_by places.places spots known more limit spare left c stranger discharged states
+      (tallied_by places.places spots known more limit spare left c no_client discharged states
       (let none : state.jobs - 1 ≡ 0 = ap (λ n. n - 1) last in
       ap (λ n. record { jobs = n; running = 0 }) (sym none) ∙ ap (λ n. record { jobs = state.jobs - 1; running = n }) (sym no_running) ∙ ap (λ (k : Client). discharged (tally_of k)) got))
 
 -- a client of which something is counted may be set
-module _ (known : Known) (c : ℕ) (count : Client → ℕ) (state : Client) (got : state ≡ client_at known c) (none : count stranger ≡ 0) (some : 0 < count state) where
+module _ (known : Known) (c : ℕ) (count : Client → ℕ) (state : Client) (got : state ≡ client_at known c) (none : count no_client ≡ 0) (some : 0 < count state) where
   pub is_known : is_some (get known c) ≡ true
   is_known = known_by known c count none (subst (λ k. 0 < count k) got some)
 

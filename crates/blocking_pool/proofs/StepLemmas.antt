@@ -12,21 +12,21 @@ use Rattle.blocking_pool.specs.ClientTable.{Known, client_at}
 use Rattle.blocking_pool.specs.Lines.{rest_of, places_of, AreLined}
 use Rattle.blocking_pool.specs.Hangs.{ready_of, Leads, Hangs}
 use Rattle.blocking_pool.specs.Queue.{Queue, ready_in, TakesPlace}
-use Rattle.blocking_pool.specs.QueueForm.{tally_of, tallies_of, client_by, number_by, after_by, admits, is_open_at, line_at, line_by, head_of, ready_at, shorter, taken_from, AreAnew, IsQueue}
+use Rattle.blocking_pool.specs.QueueForm.{tally_of, tallies_of, client_by, number_by, after_by, admits, is_open_at, line_at, line_by, head_of, ready_at, shorter, taken_from, AreAnew, IsLined}
 use Rattle.blocking_pool.specs.declared.pool.clients.Line.{Line}
 use Rattle.blocking_pool.specs.declared.pool.clients.Client.{Client}
 use Rattle.blocking_pool.specs.declared.pool.queue.Spot.{Spot}
 use Rattle.blocking_pool.proofs.Lists.{is_in-first}
 use Rattle.blocking_pool.proofs.ClientLemmas.{client_set}
 use Rattle.blocking_pool.proofs.OpenLemmas.{is_in-filter, opened as opened_by}
-use Rattle.blocking_pool.proofs.HangLemmas.{said, numbered, in_queue_of, front_begins, front_taken, none_taken, first_is, its_client, is_ready, taken as taken_out}
+use Rattle.blocking_pool.proofs.HangLemmas.{said, numbered, in_queue_of, none_taken, first_is, its_client, is_ready, taken as taken_out}
 use Rattle.blocking_pool.proofs.LineLemmas.{line_begins, line_none, line_long, first_below, lined_as, popped, popped_row}
 use Rattle.blocking_pool.proofs.AdmitLemmas.{admitted, IsBase, heads_fit, ready_short, hangs_anew}
 use Rattle.blocking_pool.proofs.QueueLemmas.{seen_as, owner_seen, ready_seen, tallied_by}
 
 -- ---- heads made anew
 
-module _ (places : Chain) (spots : List Spot) (known : Known) (heads : Heads) (limit : Option ℕ) (ready next : ℕ) (queue : IsQueue places spots known heads limit ready next) where
+module _ (places : Chain) (spots : List Spot) (known : Known) (heads : Heads) (limit : Option ℕ) (ready next : ℕ) (queue : IsLined places spots known heads limit ready next) where
   pub base_of : IsBase places.places spots known heads.room next
   base_of =
       record {
@@ -37,7 +37,7 @@ module _ (places : Chain) (spots : List Spot) (known : Known) (heads : Heads) (l
       }
 
 pub queue_anew : (places : Chain) (spots : List Spot) (known : Known) (old new : Heads) (limit : Option ℕ) (ready next : ℕ) → IsBase places.places spots known old.room next → length spots ≤ places.room → next < greatest
-    → AreAnew known spots limit old new ready → IsQueue places spots known new limit ready next
+    → AreAnew known spots limit old new ready → IsLined places spots known new limit ready next
 queue_anew places spots known old new limit ready next base room left anew =
     record {
       hangs = hangs_anew places.places spots known old.room next base limit anew.entries anew.all new.heads ready anew.heads anew.count;
@@ -50,7 +50,7 @@ queue_anew places spots known old new limit ready next base room left anew =
 
 -- ---- a client that had no room is set, and may have room now
 
-module _ (places : Chain) (spots : List Spot) (known : Known) (heads : Heads) (limit : Option ℕ) (ready next : ℕ) (queue : IsQueue places spots known heads limit ready next)
+module _ (places : Chain) (spots : List Spot) (known : Known) (heads : Heads) (limit : Option ℕ) (ready next : ℕ) (queue : IsLined places spots known heads limit ready next)
     (more : Known) (c : ℕ) (state later : Client) (got : state ≡ client_at known c) (is : more ≡ insert known c later) (line : later.line ≡ state.line) (shut : admits limit state.running ≡ false)
     (seats : len known ≤ heads.room → len more ≤ heads.room) where
   states : (q : ℕ) → client_at more q ≡ cond (eqb q c) later (client_at known q)
@@ -110,7 +110,7 @@ module _ (places : Chain) (spots : List Spot) (known : Known) (heads : Heads) (l
       omega (arith, short)
 
   pub opens_queue : (now : Heads) (grown : ℕ) → IsPermutation (head_of (number_by spots) limit c later ++ heads.heads) now.heads → heads.room ≤ now.room → grown ≡ ready_at limit later
-      → IsQueue places spots more now limit (ready + grown) next
+      → IsLined places spots more now limit (ready + grown) next
   opens_queue now grown order wider count =
       record {
         hangs = subst (λ n. Hangs (client_by spots) (number_by spots) (is_open_at limit more) places.places (line_by spots more) now.heads next n)
@@ -140,21 +140,21 @@ module _ (after : ℕ → ℕ) (state : Client) where
 
 -- the first ready place is taken, as it is seen
 pub takes_place : (old : Queue) (places left : List ℕ) (spots : List Spot) (known more : Known) (limit : Option ℕ) (spare room c place : ℕ) (state later : Client) → seen_as places spots known limit spare ≡ old
-    → state ≡ client_at known c → more ≡ insert known c later → later ≡ taken_from spots state → client_by spots place ≡ c → first_of (ready_in (seen_as places spots known limit spare)) ≡ Some place
+    → state ≡ client_at known c → more ≡ insert known c later → tally_of later ≡ started (tally_of state) → client_by spots place ≡ c → first_of (ready_in (seen_as places spots known limit spare)) ≡ Some place
     → left ≡ without place places → TakesPlace old place (seen_as left spots more limit room)
-takes_place old places left spots known more limit spare room c place state later seen got is taken own first gone =
+takes_place old places left spots known more limit spare room c place state later seen got is counts own first gone =
     subst (λ (q : Queue). TakesPlace q place (seen_as left spots more limit room)) seen
     (record {
       first = first;
       places = gone;
       owners = refl;
       tallies = subst (λ k. IsTallied (tallies_of known) (tallies_of more) k (started (tally_at (tallies_of known) k))) (sym (owner_seen spots place ∙ own))
-          (tallied_by places spots known more limit spare room c later started (λ q. ap (λ k. client_at k q) is ∙ client_set known c later q) (ap tally_of taken ∙ ap (λ k. started (tally_of k)) got)).tallies;
+          (tallied_by places spots known more limit spare room c later started (λ q. ap (λ k. client_at k q) is ∙ client_set known c later q) (counts ∙ ap (λ k. started (tally_of k)) got)).tallies;
       limit = refl;
     })
 
 -- the first place of a client's line is taken out
-module _ (places : Chain) (spots : List Spot) (known : Known) (heads : Heads) (limit : Option ℕ) (ready next : ℕ) (queue : IsQueue places spots known heads limit ready next)
+module _ (places : Chain) (spots : List Spot) (known : Known) (heads : Heads) (limit : Option ℕ) (ready next : ℕ) (queue : IsLined places spots known heads limit ready next)
     (c : ℕ) (state : Client) (got : state ≡ client_at known c) (some : 0 < state.line.len) where
   some_known : 0 < (line_at known c).len
   some_known = subst (λ (k : Client). 0 < k.line.len) got some
@@ -203,44 +203,8 @@ module _ (places : Chain) (spots : List Spot) (known : Known) (heads : Heads) (l
     pub row_later : line_by spots more c ≡ places_of (after_by spots) later.line
     row_later = ap (λ (k : Client). places_of (after_by spots) k.line) (put_here ∙ sym taken)
 
--- where no limit is set
-module _ (places : Chain) (spots : List Spot) (known : Known) (heads : Heads) (limit : Option ℕ) (ready next : ℕ) (queue : IsQueue places spots known heads limit ready next)
-    (place c : ℕ) (state : Client) (first : first_of places.places ≡ Some place) (own : client_by spots place ≡ c) (got : state ≡ client_at known c) where
-  front_is : first_of (places_of (after_by spots) state.line) ≡ Some place
-  front_is = ap (λ (k : Client). first_of (places_of (after_by spots) k.line)) got
-      ∙ subst (λ k. first_of (line_by spots known k) ≡ Some place) own (front_begins (client_by spots) (number_by spots) (is_open_at limit known) places.places (line_by spots known) heads.heads next ready place queue.hangs first)
-
-  pub front_some : 0 < state.line.len
-  front_some = (some_first (after_by spots) state place front_is).0
-
-  pub front_first : state.line.first ≡ place
-  front_first = (some_first (after_by spots) state place front_is).1
-
-  pub front_queue : limit ≡ None → (more : Known) (later : Client) → more ≡ insert known c later → later ≡ taken_from spots state → (len known ≤ heads.room → len more ≤ heads.room)
-      → (chain : Chain) → chain ≡ record places { places = without place places.places } → IsQueue chain spots more heads limit ready next
-  front_queue none more later is taken seats chain gone =
-      let begins : line_by spots known (client_by spots place) ≡ place ∷ rest_of (line_by spots known c) =
-      ap (line_by spots known) own ∙ line_begins_with places spots known heads limit ready next queue c state got front_some ∙ ap (λ p. p ∷ rest_of (line_by spots known c)) front_first in
-      let row = row_less places spots known heads limit ready next queue c state got front_some more later is taken in
-      let rows = row_else places spots known heads limit ready next queue c state got front_some more later is taken in
-      subst (λ (q : Chain). IsQueue q spots more heads limit ready next) (sym gone)
-      (record {
-        hangs = said (client_by spots) (number_by spots) (is_open_at limit known) (without place places.places) (line_by spots more) heads.heads next ready
-            (front_taken (client_by spots) (number_by spots) (is_open_at limit known) places.places (line_by spots known) heads.heads next ready queue.hangs place (rest_of (line_by spots known c)) begins
-            (shut known (client_by spots place)) (line_by spots more) (ap (line_by spots more) own ∙ row) (λ d n. rows d (λ e. n (e ∙ sym own))))
-            (client_by spots) (number_by spots) (is_open_at limit more) (line_by spots more) heads.heads (λ p _. refl) (λ p _. refl) (λ d _. shut more d ∙ sym (shut known d)) (λ d. refl) (IsPermutation-refl heads.heads);
-        lined = lined_less places spots known heads limit ready next queue c state got front_some more later is taken;
-        chain_room = queue.chain_room;
-        seats = λ some. seats (queue.seats some);
-        within = λ p there. queue.within p (is_in-filter _ p places.places there);
-        left = queue.left;
-      })
-    where
-      shut : (k : Known) (d : ℕ) → is_open_at limit k d ≡ false
-      shut k d = ap (λ l. admits l (client_at k d).running) none
-
 -- where a limit is set: the first head is taken out
-module _ (places : Chain) (spots : List Spot) (known : Known) (heads : Heads) (limit : Option ℕ) (ready next : ℕ) (queue : IsQueue places spots known heads limit ready next)
+module _ (places : Chain) (spots : List Spot) (known : Known) (heads : Heads) (limit : Option ℕ) (ready next : ℕ) (queue : IsLined places spots known heads limit ready next)
     (n c : ℕ) (left : Heads) (pops : PopsLeast heads (Some (n, c)) left) (state : Client) (got : state ≡ client_at known c) where
   leads : Leads (number_by spots) (line_by spots known c) n
   leads = All-permutation (λ (o : Head). Leads (number_by spots) (line_by spots known o.1) o.0) heads.heads ((n, c) ∷ left.heads) pops.0 queue.hangs.led 0 (n, c) (omega arith)
@@ -337,9 +301,9 @@ module _ (places : Chain) (spots : List Spot) (known : Known) (heads : Heads) (l
 
     pub again_queue : (chain : Chain) (now : Heads) (grown : ℕ) → chain ≡ record places { places = without state.line.first places.places }
         → IsPermutation (head_of (number_by spots) limit c later ++ left.heads) now.heads → left.room ≤ now.room → grown ≡ ready_at limit later
-        → IsQueue chain spots more now limit ((ready - state.line.len) + grown) next
+        → IsLined chain spots more now limit ((ready - state.line.len) + grown) next
     again_queue chain now grown gone order wider count =
-        subst (λ (q : Chain). IsQueue q spots more now limit ((ready - state.line.len) + grown) next) (sym gone)
+        subst (λ (q : Chain). IsLined q spots more now limit ((ready - state.line.len) + grown) next) (sym gone)
         (record {
           hangs = subst (λ m. Hangs (client_by spots) (number_by spots) (is_open_at limit more) (without state.line.first places.places) (line_by spots more) now.heads next m)
               (let same : ready_at limit later + (ready - state.line.len) ≡ (ready - state.line.len) + grown = omega (arith, count) in same)
@@ -353,7 +317,7 @@ module _ (places : Chain) (spots : List Spot) (known : Known) (heads : Heads) (l
         })
 
 -- where there is no head, nothing is ready
-pub no_head : (places : Chain) (spots : List Spot) (known : Known) (heads : Heads) (limit : Option ℕ) (ready next spare most : ℕ) → IsQueue places spots known heads limit ready next → limit ≡ Some most → heads.heads ≡ []
+pub no_head : (places : Chain) (spots : List Spot) (known : Known) (heads : Heads) (limit : Option ℕ) (ready next spare most : ℕ) → IsLined places spots known heads limit ready next → limit ≡ Some most → heads.heads ≡ []
     → ready_in (seen_as places.places spots known limit spare) ≡ []
 no_head places spots known heads limit ready next spare most queue is none =
     ready_seen places.places spots known limit spare most is

@@ -1,5 +1,5 @@
 -- What is known of the clients that have jobs.
-use Rattle.std.specs.Prelude.{◌≡◌, ℕ, ◌≤◌, ◌==◌, if◌then◌else◌, List, ◌∷◌, unwrap_or, refl}
+use Rattle.std.specs.Prelude.{◌≡◌, ℕ, ◌+◌, ◌-◌, ◌≤◌, ◌==◌, if◌then◌else◌, List, ◌∷◌, unwrap_or, refl}
 use Rattle.std.specs.Ordering.{nat_cmp}
 use Rattle.std.specs.FinMap.{FinMap, get, len, code, from_entries}
 use Rattle.std.specs.Coded.{Coded, code_by, coded×, coded_ℕ}
@@ -33,16 +33,29 @@ abbrev pub no_line : Line
 no_line = record { first = 0; last = 0; len = 0 }
 
 -- a client that has no job
-abbrev pub stranger : Client
-stranger = record { line = no_line; jobs = 0; running = 0 }
+abbrev pub no_client : Client
+no_client = record { line = no_line; jobs = 0; running = 0 }
 
--- what is known of a client: it is a stranger where nothing is
+-- a client with one job more or fewer, and with one more or fewer that run
+abbrev pub with_job : Client → Client
+with_job client = record client { jobs = client.jobs + 1 }
+
+abbrev pub without_job : Client → Client
+without_job client = record client { jobs = client.jobs - 1 }
+
+abbrev pub with_running : Client → Client
+with_running client = record client { running = client.running + 1 }
+
+abbrev pub without_running : Client → Client
+without_running client = record client { running = client.running - 1 }
+
+-- what is known of a client: that it has no job where nothing is
 abbrev pub client_at : Known → ℕ → Client
-client_at known client = unwrap_or (get known client) stranger
+client_at known client = unwrap_or (get known client) no_client
 
 -- nothing is known of a client now, and of the others what was
 pub record Forgets (old new : Clients) (client : ℕ) : Type 0 where
-  pub states : (other : ℕ) → client_at new.known other ≡ (if other == client then stranger else client_at old.known other)
+  pub states : (other : ℕ) → client_at new.known other ≡ (if other == client then no_client else client_at old.known other)
   pub fewer : len new.known ≤ len old.known
 
 -- each client that is known stands here once

@@ -2,7 +2,7 @@
 use Rattle.std.specs.Prelude.{◌≡◌, ◌≢◌, ℕ, ◌+◌, ◌-◌, ◌<◌, ◌≤◌, ◌==◌, ◌&&◌, nat_lt, if◌then◌else◌, Bool, true, false, List, [], ◌∷◌, ◌++◌, length, map, Option, Some, None, slice_index_or, IsPermutation}
 use Rattle.std.specs.FinMap.{len, from_entries, entries}
 use Rattle.std.specs.List.{All}
-use Rattle.blocking_pool.specs.Lists.{is_in}
+use Rattle.blocking_pool.specs.Lists.{is_in, IsOnce}
 use Rattle.blocking_pool.specs.Chain.{Chain}
 use Rattle.blocking_pool.specs.Growth.{greatest}
 use Rattle.blocking_pool.specs.Heads.{Head, Heads}
@@ -55,14 +55,53 @@ line_at known client = (client_at known client).line
 abbrev pub line_by : List Spot → Known → ℕ → List ℕ
 line_by spots known client = places_of (after_by spots) (line_at known client)
 
--- Chain, spots, clients and heads hang together, where so many places are ready, and the next entry has this number.
-pub record IsQueue (places : Chain) (spots : List Spot) (known : Known) (heads : Heads) (limit : Option ℕ) (ready next : ℕ) : Type 0 where
+-- The lines are those of the queue: chain, spots, clients and heads hang together, where so many places are ready, and
+-- the next entry has this number.
+pub record IsLined (places : Chain) (spots : List Spot) (known : Known) (heads : Heads) (limit : Option ℕ) (ready next : ℕ) : Type 0 where
   pub hangs : Hangs (client_by spots) (number_by spots) (is_open_at limit known) places.places (line_by spots known) heads.heads next ready
   pub lined : AreLined (after_by spots) (length spots) (line_at known)
   pub chain_room : length spots ≤ places.room
   pub seats : 0 < length spots → len known ≤ heads.room
   pub within : (place : ℕ) → is_in place places.places ≡ true → place < length spots
   pub left : next < greatest
+
+-- no line has a place
+abbrev pub HaveNoLines : Known → Type 0
+HaveNoLines known = (client : ℕ) → (line_at known client).len ≡ 0
+
+-- each line that has places is that of a client with a place in the queue
+abbrev pub HaveLinesOf : List Spot → Known → List ℕ → Type 0
+HaveLinesOf spots known places = (client : ℕ) → 0 < (line_at known client).len → (place : ℕ) × (is_in place places ≡ true) × (client_by spots place ≡ client)
+
+-- each place of the queue is one of a client that has jobs
+abbrev pub AreHeld : List Spot → Known → List ℕ → Type 0
+AreHeld spots known places = (place : ℕ) → is_in place places ≡ true → 0 < (client_at known (client_by spots place)).jobs
+
+-- the lines are kept where a client limit is set
+abbrev pub AreLines : Option ℕ → Chain → List Spot → Known → Heads → ℕ → ℕ → Type 0
+AreLines None places spots known heads ready next = HaveNoLines known × (heads.heads ≡ [])
+AreLines (Some limit) places spots known heads ready next = IsLined places spots known heads (Some limit) ready next
+
+-- What every queue keeps.
+pub record IsQueue (places : Chain) (spots : List Spot) (known : Known) (heads : Heads) (limit : Option ℕ) (ready next : ℕ) : Type 0 where
+  pub lines : AreLines limit places spots known heads ready next
+  pub once : IsOnce places.places
+  pub within : (place : ℕ) → is_in place places.places ≡ true → place < length spots
+  pub chain_room : length spots ≤ places.room
+  pub seats : 0 < length spots → len known ≤ heads.room
+  pub held : AreHeld spots known places.places
+
+-- Each client has as many jobs as before, and as many that run.
+pub record SameCounts (old new : Known) : Type 0 where
+  pub counts : (client : ℕ) → tally_of (client_at new client) ≡ tally_of (client_at old client)
+  pub len_is : len new ≡ len old
+
+-- The places of the queue stand in the lines of their clients, and the number after the last is this one.
+pub record LinesUp (old new : List Spot) (before after : Known) (places : List ℕ) (next : ℕ) : Type 0 where
+  pub lined : IsLined (record { places = places; room = length old }) new after (record { heads = []; room = len before }) None 0 next
+  pub count : length new ≡ length old
+  pub owners : (place : ℕ) → client_by new place ≡ client_by old place
+  pub same : SameCounts before after
 
 -- One spot is put at the end of a line, and the place before it leads to it.
 pub record Appends (old new : List Spot) (line : Line) (place : ℕ) (spot : Spot) : Type 0 where

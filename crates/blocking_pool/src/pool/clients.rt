@@ -1,7 +1,8 @@
 //! What is known of the clients that have jobs.
-ghost use Rattle.std.specs.Prelude.{◌≡◌, ◌<◌, ◌||◌, ℕ, true, is_some, nat_lt, OnOk};
+ghost use Rattle.std.specs.Prelude.{◌≡◌, ◌≢◌, ◌<◌, ◌||◌, ◌&&◌, ◌==◌, not, ℕ, true, is_some, nat_lt, OnOk};
 ghost use Rattle.std.specs.FinMap.{get, insert, len};
-ghost use Rattle.blocking_pool.specs.ClientTable.{client_at, stranger, Forgets, AreNamed};
+ghost use Rattle.blocking_pool.specs.Growth.{greatest};
+ghost use Rattle.blocking_pool.specs.ClientTable.{client_at, no_client, with_job, without_job, with_running, without_running, Forgets, AreNamed};
 
 use std::alloc::{AllocError, Global};
 use std::collections::HashMap;
@@ -15,7 +16,8 @@ pub(crate) struct Line {
     pub len: usize,
 }
 
-/// What is known of a client: its line of queued places, how many of its jobs aren't over, and how many of these run.
+/// What is known of a client: its line of queued places, which is kept while a client limit is set, how many of its jobs
+/// aren't over, and how many of these run.
 #[derive(Clone, Copy)]
 pub(crate) struct Client {
     pub line: Line,
@@ -23,13 +25,16 @@ pub(crate) struct Client {
     pub running: usize,
 }
 
-// A client that has no job.
-const STRANGER: Client = Client {
-    line: Line {
-        first: 0,
-        last: 0,
-        len: 0,
-    },
+/// A line that is empty.
+pub(crate) const NO_LINE: Line = Line {
+    first: 0,
+    last: 0,
+    len: 0,
+};
+
+// What is known of a client that has no job.
+const NO_CLIENT: Client = Client {
+    line: NO_LINE,
     jobs: 0,
     running: 0,
 };
@@ -64,10 +69,10 @@ impl Model for Clients {
 impl Clients {
     /// Client 0 alone is known. Takes no memory.
     pub(crate) fn new(alloc: Global) -> Self
-        ensures { (client : ℕ) → client_at result.known client ≡ stranger }
+        ensures { (client : ℕ) → client_at result.known client ≡ no_client }
     {
         Clients {
-            unnamed: STRANGER,
+            unnamed: NO_CLIENT,
             named: HashMap::new(alloc),
         }
     }
@@ -80,6 +85,7 @@ impl Clients {
     }
 
     /// Whether the client is known.
+    #[inline(always)]
     pub(crate) fn knows(&self, client: u32) -> bool
         ensures { result ≡ is_some (get self.now.known client) }
     {
@@ -87,6 +93,7 @@ impl Clients {
     }
 
     /// What is known of a client.
+    #[inline(never)]
     pub(crate) fn get(&self, client: u32) -> Client
         ensures { result ≡ client_at self.now.known client }
     {
@@ -95,7 +102,7 @@ impl Clients {
         }
         match self.named.get(&client) {
             Some(state) => *state,
-            None => STRANGER,
+            None => NO_CLIENT,
         }
     }
 
@@ -115,6 +122,8 @@ impl Clients {
     }
 
     /// Sets what is known of a client.
+    // (not where no client limit is set: what a call costs then is in docs/DECISIONS.md)
+    #[inline(never)]
     pub(crate) fn set(&mut self, client: u32, state: Client)
         requires { (is_some (get self.old.known client) || nat_lt 0 self.old.spare) ≡ true }
         ensures { self.new.known ≡ insert self.old.known client state }
@@ -128,14 +137,82 @@ impl Clients {
         };
     }
 
-    /// Forgets a client.
-    pub(crate) fn forget(&mut self, client: u32)
-        ensures { Forgets self.old self.new client }
+    /// A client has one job more.
+    #[inline(always)]
+    pub(crate) fn enroll(&mut self, client: u32)
+        requires seat { (is_some (get self.old.known client) || nat_lt 0 self.old.spare) ≡ true }
+        requires left { (client_at self.old.known client).jobs < greatest }
+        ensures { self.new.known ≡ insert self.old.known client (with_job (client_at self.old.known client)) }
     {
         if client == 0 {
-            self.unnamed = STRANGER;
+            self.unnamed.jobs += 1;
             return;
         }
+        let state = self.get(client);
+        let jobs = state.jobs + 1;
+        self.set(client, Client { jobs, ..state });
+    }
+
+    /// A client has one job fewer.
+    #[inline(always)]
+    pub(crate) fn discharge(&mut self, client: u32)
+        requires { 0 < (client_at self.old.known client).jobs }
+        ensures { self.new.known ≡ insert self.old.known client (without_job (client_at self.old.known client)) }
+    {
+        if client == 0 {
+            self.unnamed.jobs -= 1;
+            return;
+        }
+        let state = self.get(client);
+        let jobs = state.jobs - 1;
+        self.set(client, Client { jobs, ..state });
+    }
+
+    /// One job more of a client runs.
+    #[inline(always)]
+    pub(crate) fn start(&mut self, client: u32)
+        requires some { 0 < (client_at self.old.known client).jobs }
+        requires left { (client_at self.old.known client).running < greatest }
+        ensures { self.new.known ≡ insert self.old.known client (with_running (client_at self.old.known client)) }
+    {
+        if client == 0 {
+            self.unnamed.running += 1;
+            return;
+        }
+        let state = self.get(client);
+        let running = state.running + 1;
+        self.set(client, Client { running, ..state });
+    }
+
+    /// One job fewer of a client runs.
+    #[inline(always)]
+    pub(crate) fn stop(&mut self, client: u32)
+        requires { 0 < (client_at self.old.known client).running }
+        ensures { self.new.known ≡ insert self.old.known client (without_running (client_at self.old.known client)) }
+    {
+        if client == 0 {
+            self.unnamed.running -= 1;
+            return;
+        }
+        let state = self.get(client);
+        let running = state.running - 1;
+        self.set(client, Client { running, ..state });
+    }
+
+    /// Whether the client goes with its next job: it is named, and has one job.
+    #[inline(always)]
+    pub(crate) fn is_last_job(&self, client: u32) -> bool
+        ensures { result ≡ (not (client == 0) && ((client_at self.now.known client).jobs == 1)) }
+    {
+        client != 0 && self.get(client).jobs == 1
+    }
+
+    /// Forgets a client that is named.
+    #[inline(never)]
+    pub(crate) fn forget(&mut self, client: u32)
+        requires { client ≢ 0 }
+        ensures { Forgets self.old self.new client }
+    {
         self.named.remove(&client);
     }
 }

@@ -1,8 +1,9 @@
 //! The queue by clients: which queued place is the first whose client has room.
 //!
-//! Beside the chain of all queued places stands a line for each client: its queued places in the order of the queue,
-//! linked by [`Spot::after`]. While a client limit is set, a heap has the head of each line whose client has room, by its
-//! number of entry. So a take costs at most the logarithm of the clients that have queued jobs.
+//! While a client limit is set, a line for each client stands by the chain of all queued places: the client's queued places
+//! in the order of the queue, linked by [`Spot::after`]. A heap has the head of each line whose client has room, by its
+//! number of entry. So a take costs at most the logarithm of the clients that have queued jobs. Where no client limit is
+//! set, no line is kept, and only the numbers of each client's jobs are.
 ghost use Rattle.std.specs.Prelude.{◌≡◌, ◌+◌, ◌-◌, ◌<◌, ◌≤◌, ◌++◌, ◌∷◌, ◌==◌, ◌&&◌, if◌then◌else◌, [], ℕ, List, true, false, length, map, Some, None, OnOk, IsSome, IfSome, slice_set, IsPermutation};
 ghost use Rattle.blocking_pool.specs.Lists.{is_in};
 ghost use Rattle.blocking_pool.specs.Growth.{greatest};
@@ -10,17 +11,18 @@ ghost use Rattle.blocking_pool.specs.Clients.{tally_at, no_jobs, has_room_at, en
 ghost use Rattle.blocking_pool.specs.ClientTable.{AreAll};
 ghost use Rattle.blocking_pool.specs.Hangs.{one_if};
 ghost use Rattle.blocking_pool.specs.Queue.{line_in, ready_in, has_seat, Widens, Tallied, Holds, TakesReady};
-ghost use Rattle.blocking_pool.specs.QueueForm.{admits, number_by, Appends, longer, taken_from, head_of, ready_at, heads_of, ready_among, Fits, AreAnew, Renumbers};
+ghost use Rattle.blocking_pool.specs.QueueForm.{admits, number_by, Appends, longer, taken_from, head_of, ready_at, heads_of, ready_among, Fits, AreAnew, Renumbers, HaveNoLines, HaveLinesOf, AreHeld, SameCounts, LinesUp};
 ghost use Rattle.blocking_pool.specs.declared.pool.clients.Client.{Client as State};
 
 use crate::pool::chain::Chain;
-use crate::pool::clients::{Client, Clients, Line};
+use crate::pool::clients::{Client, Clients, Line, NO_LINE};
 use crate::pool::heads::Heads;
 use std::alloc::{AllocError, Global};
 use std::collections::HashMap;
 use std::marker::Model;
 
-// What is known of a place that may stand in the queue.
+// What is known of a place that may stand in the queue. Its number and what comes after it are kept while a client limit
+// is set.
 #[derive(Clone, Copy)]
 struct Spot {
     client: u32,
@@ -186,6 +188,56 @@ fn number_anew(spots: &mut [Spot], places: &Chain) -> u64
     number
 }
 
+// Puts the places of the queue into the lines of their clients, which are empty, numbered from 0 on. Gives the number
+// after the last.
+fn line_up(spots: &mut [Spot], clients: &mut Clients, places: &Chain) -> u64
+    requires empty { HaveNoLines clients.old.known }
+    requires held { AreHeld spots.old clients.old.known places.now.places }
+    requires within { (place : ℕ) → is_in place places.now.places ≡ true → place < length spots.old }
+    requires short { length spots.old < greatest }
+    ensures { LinesUp spots.old spots.new clients.old.known clients.new.known places.now.places result }
+{
+    let mut number = 0;
+    let mut next = places.first();
+    'places: while let Some(place) = next {
+        let client = spots[place].client;
+        let state = clients.get(client);
+        let spot = Spot {
+            client,
+            number,
+            after: place,
+        };
+        let line = append(spots, state.line, place, spot);
+        clients.set(client, Client { line, ..state });
+        number += 1;
+        next = places.after(place);
+    }
+    number
+}
+
+// Empties the lines of the clients that have places in the queue.
+fn clear_lines(spots: &[Spot], clients: &mut Clients, places: &Chain)
+    requires owned { HaveLinesOf spots.now clients.old.known places.now.places }
+    requires held { AreHeld spots.now clients.old.known places.now.places }
+    requires within { (place : ℕ) → is_in place places.now.places ≡ true → place < length spots.now }
+    ensures empty { HaveNoLines clients.new.known }
+    ensures same { SameCounts clients.old.known clients.new.known }
+{
+    let mut next = places.first();
+    'places: while let Some(place) = next {
+        let client = spots[place].client;
+        let state = clients.get(client);
+        clients.set(
+            client,
+            Client {
+                line: NO_LINE,
+                ..state
+            },
+        );
+        next = places.after(place);
+    }
+}
+
 // Pushes the head of a client that is open and whose line begins with a new entry. Tells how many places more are ready.
 fn admit_entry(heads: &mut Heads, may_run: bool, line: Line, name: u32, number: u64) -> usize
     requires { may_run ≡ true → line.len ≡ 0 → length heads.old.heads < heads.old.room }
@@ -256,7 +308,20 @@ impl Queue {
     }
 
     /// Makes room for the places up to this one.
+    #[inline(always)]
     pub(crate) fn make_room(&mut self, place: usize) -> Result<(), AllocError>
+        ensures same { Widens self.old self.new }
+        ensures room { OnOk result (place < length self.new.owners) }
+    {
+        if place < self.spots.len() {
+            return Ok(());
+        }
+        self.widen(place)
+    }
+
+    // The same, where there is no room for this place yet.
+    #[inline(never)]
+    fn widen(&mut self, place: usize) -> Result<(), AllocError>
         ensures same { Widens self.old self.new }
         ensures room { OnOk result (place < length self.new.owners) }
     {
@@ -277,6 +342,7 @@ impl Queue {
     }
 
     /// Makes room for what is known of a client.
+    #[inline(always)]
     pub(crate) fn make_seat(&mut self, client: u32) -> Result<(), AllocError>
         ensures same { Holds self.old self.new self.old.places self.old.owners }
         ensures room { OnOk result (has_seat self.new client ≡ true) }
@@ -284,40 +350,66 @@ impl Queue {
         if self.clients.knows(client) {
             return Ok(());
         }
+        self.add_seat()
+    }
+
+    // Makes room for what is known of one client more.
+    #[inline(never)]
+    fn add_seat(&mut self) -> Result<(), AllocError>
+        ensures same { Holds self.old self.new self.old.places self.old.owners }
+        ensures room { OnOk result (0 < self.new.spare) }
+    {
         self.clients.make_room()?;
         let count = self.clients.len().checked_add(1).ok_or(AllocError)?;
         self.heads.make_room(count)
     }
 
     /// A client has one job more.
+    #[inline(always)]
     pub(crate) fn enroll(&mut self, client: u32)
         requires room { has_seat self.old client ≡ true }
         requires left { (tally_at self.old.tallies client).jobs < greatest }
         ensures { Tallied self.old self.new client enrolled }
     {
-        let state = self.clients.get(client);
-        let jobs = state.jobs + 1;
-        self.clients.set(client, Client { jobs, ..state });
+        self.clients.enroll(client);
     }
 
-    /// A job of the client is over. With its last job all goes that is known of a client.
+    /// A job of the client is over. With its last job all goes that is known of a client that is named.
+    #[inline(always)]
     pub(crate) fn discharge(&mut self, client: u32)
         requires some { 0 < (tally_at self.old.tallies client).jobs }
         requires idle { (tally_at self.old.tallies client).jobs ≡ 1 → (tally_at self.old.tallies client).running ≡ 0 }
         requires none_queued { (tally_at self.old.tallies client).jobs ≡ 1 → line_in self.old client ≡ [] }
         ensures { Tallied self.old self.new client discharged }
     {
-        let state = self.clients.get(client);
-        if state.jobs == 1 {
+        if self.clients.is_last_job(client) {
             self.clients.forget(client);
             return;
         }
-        let jobs = state.jobs - 1;
-        self.clients.set(client, Client { jobs, ..state });
+        self.clients.discharge(client);
     }
 
     /// Adds a place at the queue's end.
+    #[inline(always)]
     pub(crate) fn enter(&mut self, place: usize, client: u32)
+        requires room { place < length self.old.owners }
+        requires client { 0 < (tally_at self.old.tallies client).jobs }
+        requires fresh { is_in place self.old.places ≡ false }
+        ensures { Holds self.old self.new (self.old.places ++ place ∷ []) (slice_set self.old.owners place client) }
+    {
+        match self.limit {
+            None => {
+                self.places.push_back(place);
+                self.spots[place].client = client;
+            }
+            Some(_) => self.enter_line(place, client),
+        }
+    }
+
+    // Adds a place at the queue's end and at that of its client's line, where a client limit is set.
+    #[inline(never)]
+    fn enter_line(&mut self, place: usize, client: u32)
+        requires limit { IsSome self.old.limit }
         requires room { place < length self.old.owners }
         requires client { 0 < (tally_at self.old.tallies client).jobs }
         requires fresh { is_in place self.old.places ≡ false }
@@ -348,6 +440,7 @@ impl Queue {
     }
 
     /// Takes the first ready place out; one job more of its client runs.
+    #[inline(always)]
     pub(crate) fn take(&mut self) -> Option<usize>
         requires { (client : ℕ) → (tally_at self.old.tallies client).running < greatest }
         ensures { TakesReady self.old result self.new }
@@ -359,6 +452,7 @@ impl Queue {
     }
 
     // Takes the front of the queue out, where no client limit is set.
+    #[inline(always)]
     fn take_front(&mut self) -> Option<usize>
         requires limit { self.old.limit ≡ None }
         requires running { (client : ℕ) → (tally_at self.old.tallies client).running < greatest }
@@ -366,14 +460,13 @@ impl Queue {
     {
         let place = self.places.first()?;
         let client = self.spots[place].client;
-        let state = self.clients.get(client);
-        let later = take_from(&self.spots, state);
         self.places.unlink(place);
-        self.clients.set(client, later);
+        self.clients.start(client);
         Some(place)
     }
 
     // Takes the first place of the client out whose head is the first, where a client limit is set.
+    #[inline(never)]
     fn take_head(&mut self) -> Option<usize>
         requires limit { IsSome self.old.limit }
         requires running { (client : ℕ) → (tally_at self.old.tallies client).running < greatest }
@@ -391,8 +484,22 @@ impl Queue {
     }
 
     /// A job of the client runs no more.
+    #[inline(always)]
     pub(crate) fn stop(&mut self, client: u32)
         requires { 0 < (tally_at self.old.tallies client).running }
+        ensures { Tallied self.old self.new client stopped }
+    {
+        match self.limit {
+            None => self.clients.stop(client),
+            Some(_) => self.stop_limited(client),
+        }
+    }
+
+    // The same, where a client limit is set: the client may have room now.
+    #[inline(never)]
+    fn stop_limited(&mut self, client: u32)
+        requires limit { IsSome self.old.limit }
+        requires running { 0 < (tally_at self.old.tallies client).running }
         ensures { Tallied self.old self.new client stopped }
     {
         let state = self.clients.get(client);
@@ -405,14 +512,54 @@ impl Queue {
         self.ready += admit(&mut self.heads, &self.spots, self.limit, client, later);
     }
 
-    /// Sets the client limit, or sets none. Goes through the clients.
+    /// Sets the client limit, or sets none. Goes through the clients, and through the queue where there was no limit or will
+    /// be none.
     pub(crate) fn set_limit(&mut self, limit: Option<usize>)
         requires { IfSome limit (λ most. 0 < most) }
         ensures same { Holds self.old (record self.new { limit = self.old.limit }) self.old.places self.old.owners }
         ensures limit { self.new.limit ≡ limit }
     {
-        let ready = heads_anew(&mut self.heads, &self.spots, limit, &self.clients);
-        self.ready = ready;
-        self.limit = limit;
+        let Some(most) = limit else {
+            self.unset_limit();
+            return;
+        };
+        match self.limit {
+            None => self.begin_limit(most),
+            Some(_) => self.change_limit(most),
+        }
+    }
+
+    // Sets a client limit where none is set. The lines are made.
+    fn begin_limit(&mut self, most: usize)
+        requires { self.old.limit ≡ None }
+        ensures same { Holds self.old (record self.new { limit = self.old.limit }) self.old.places self.old.owners }
+        ensures limit { self.new.limit ≡ Some most }
+    {
+        self.next = line_up(&mut self.spots, &mut self.clients, &self.places);
+        self.ready = heads_anew(&mut self.heads, &self.spots, Some(most), &self.clients);
+        self.limit = Some(most);
+    }
+
+    // Sets another client limit.
+    fn change_limit(&mut self, most: usize)
+        requires { IsSome self.old.limit }
+        ensures same { Holds self.old (record self.new { limit = self.old.limit }) self.old.places self.old.owners }
+        ensures limit { self.new.limit ≡ Some most }
+    {
+        self.ready = heads_anew(&mut self.heads, &self.spots, Some(most), &self.clients);
+        self.limit = Some(most);
+    }
+
+    // Sets no client limit. The lines go.
+    fn unset_limit(&mut self)
+        ensures same { Holds self.old (record self.new { limit = self.old.limit }) self.old.places self.old.owners }
+        ensures limit { self.new.limit ≡ None }
+    {
+        if self.limit.is_none() {
+            return;
+        }
+        clear_lines(&self.spots, &mut self.clients, &self.places);
+        self.heads.clear();
+        self.limit = None;
     }
 }

@@ -1,58 +1,18 @@
-use Rattle.std.proofs.Common.{◌+◌, ◌<◌, ◌-◌, ◌≤◌, ◌++◌, List, length, IsPermutation, subst, sym, ◌∙◌, refl, arith}
+use Rattle.std.proofs.Common.{◌<◌, subst, refl}
 use Rattle.blocking_pool.specs.Clients.{Tally}
-use Rattle.blocking_pool.specs.QueueForm.{number_by, head_of}
-use Rattle.blocking_pool.specs.declared.pool.queue.Spot.{Spot}
-use Rattle.blocking_pool.proofs.QueueLemmas.{lowered, tally_seen, set_room, seats_again, changed_set, tallied_set}
-use Rattle.blocking_pool.proofs.StepLemmas.{opens_first, opens_room, opens_small, opens_queue}
+use Rattle.blocking_pool.specs.ClientTable.{client_at}
+use Rattle.blocking_pool.proofs.QueueLemmas.{tally_seen, seats_again, tallied_set}
+use Rattle.blocking_pool.proofs.KeptLemmas.{kept_jobs, none_open}
 use Rattle.blocking_pool.proofs.pool.queue.Queue.stop.Goals as goal
 
-pub overflow_sub-running : goal.overflow_sub-running
-overflow_sub-running c =
-    let some = subst (λ (t : Tally). 0 < t.running) (tally_seen _ _ _ _ _ _ _ _ c.self.view_is c.get-state.ensures) c.requires in
-    omega (arith, some)
-
-pub set-requires : goal.set-requires
-set-requires c =
-    let some = subst (λ (t : Tally). 0 < t.running) (tally_seen _ _ _ _ _ _ _ _ c.self.view_is c.get-state.ensures) c.requires in
-    set_room _ _ (λ k. k.running) c.get-state.result c.get-state.ensures refl some _
+pub stop-requires : goal.stop-requires
+stop-requires c = subst (λ (t : Tally). 0 < t.running) (tally_seen _ _ _ _ _ _ c.args.client _ c.self.view_is refl) c.requires
 
 pub invariant_of-self : goal.invariant_of-self
 invariant_of-self c =
-    let some = subst (λ (t : Tally). 0 < t.running) (tally_seen _ _ _ _ _ _ _ _ c.self.view_is c.get-state.ensures) c.requires in
-    changed_set _ _ _ _ _ _ _ c.self.invariant c.set.new.self.known c.args.client c.get-state.result _ c.get-state.ensures c.set.ensures refl (lowered c.self.inside.limit c.get-state.result.running (sym c.is_open.ensures ∙ c.if-is_open.true))
-    (λ many. seats_again _ _ (λ k. k.running) c.get-state.result c.get-state.ensures refl some _ _ _ c.set.ensures (c.self.invariant.seats many))
+    let some = subst (λ (t : Tally). 0 < t.running) (tally_seen _ _ _ _ _ _ c.args.client (client_at c.self.inside.clients.known c.args.client) c.self.view_is refl) c.requires in
+    kept_jobs _ _ _ _ _ _ _ c.self.invariant c.stop.new.self.known c.args.client _ c.stop.ensures refl (none_open c.self.inside.limit _ _ c.in-None.is)
+    (λ many. seats_again _ _ (λ k. k.running) (client_at c.self.inside.clients.known c.args.client) refl refl some _ _ _ c.stop.ensures (c.self.invariant.seats many)) refl
 
-pub returns-then-is_open : goal.returns-then-is_open
-returns-then-is_open c = tallied_set _ _ _ _ _ _ _ _ _ c.get-state.result _ _ c.self.view_is c.get-state.ensures c.set.ensures refl
-
-pub admit-requires-clause-first : goal.admit-requires-clause-first
-admit-requires-clause-first c =
-    let some = subst (λ (t : Tally). 0 < t.running) (tally_seen _ _ _ _ _ _ _ _ c.self.view_is c.get-state.ensures) c.requires in
-    subst (λ (spots : List Spot). 0 < c.get-state.result.line.len → c.get-state.result.line.first < length spots) (sym c.deref.ensures.value)
-    (opens_first _ _ _ _ _ _ _ c.self.invariant c.set.new.self.known c.args.client c.get-state.result _ c.get-state.ensures c.set.ensures refl (sym c.is_open.ensures ∙ c.if-is_open.false)
-    (λ most. seats_again _ _ (λ k. k.running) c.get-state.result c.get-state.ensures refl some _ _ _ c.set.ensures most))
-
-pub admit-requires-clause-room : goal.admit-requires-clause-room
-admit-requires-clause-room c =
-    let some = subst (λ (t : Tally). 0 < t.running) (tally_seen _ _ _ _ _ _ _ _ c.self.view_is c.get-state.ensures) c.requires in
-    subst (λ spots. length (head_of (number_by spots) c.self.inside.limit c.args.client (record { line = c.get-state.result.line; jobs = c.get-state.result.jobs; running = c.get-state.result.running - 1 })) + length c.self.inside.heads.heads ≤ c.self.inside.heads.room) (sym c.deref.ensures.value)
-    (opens_room _ _ _ _ _ _ _ c.self.invariant c.set.new.self.known c.args.client c.get-state.result _ c.get-state.ensures c.set.ensures refl (sym c.is_open.ensures ∙ c.if-is_open.false)
-    (λ most. seats_again _ _ (λ k. k.running) c.get-state.result c.get-state.ensures refl some _ _ _ c.set.ensures most))
-
-pub overflow_add-self : goal.overflow_add-self
-overflow_add-self c =
-    let some = subst (λ (t : Tally). 0 < t.running) (tally_seen _ _ _ _ _ _ _ _ c.self.view_is c.get-state.ensures) c.requires in
-    let small = opens_small _ _ _ _ _ _ _ c.self.invariant c.set.new.self.known c.args.client c.get-state.result _ c.get-state.ensures c.set.ensures refl (sym c.is_open.ensures ∙ c.if-is_open.false)
-    (λ most. seats_again _ _ (λ k. k.running) c.get-state.result c.get-state.ensures refl some _ _ _ c.set.ensures most) in
-    omega (arith, small, c.admit.ensures.ready, c.self.inside.spots.ok.0, c.self.inside.spots.ok.1, c.self.inside.spots.small)
-
-pub invariant_of-self-2 : goal.invariant_of-self-2
-invariant_of-self-2 c =
-    let some = subst (λ (t : Tally). 0 < t.running) (tally_seen _ _ _ _ _ _ _ _ c.self.view_is c.get-state.ensures) c.requires in
-    opens_queue _ _ _ _ _ _ _ c.self.invariant c.set.new.self.known c.args.client c.get-state.result _ c.get-state.ensures c.set.ensures refl (sym c.is_open.ensures ∙ c.if-is_open.false)
-    (λ most. seats_again _ _ (λ k. k.running) c.get-state.result c.get-state.ensures refl some _ _ _ c.set.ensures most) c.admit.new.heads c.admit.result
-    (subst (λ spots. IsPermutation (head_of (number_by spots) c.self.inside.limit c.args.client (record { line = c.get-state.result.line; jobs = c.get-state.result.jobs; running = c.get-state.result.running - 1 }) ++ c.self.inside.heads.heads) c.admit.new.heads.heads) c.deref.ensures.value c.admit.ensures.heads)
-    c.admit.ensures.kept c.admit.ensures.ready
-
-pub returns : goal.returns
-returns c = tallied_set _ _ _ _ _ _ _ _ _ c.get-state.result _ _ c.self.view_is c.get-state.ensures c.set.ensures refl
+pub returns-in-None : goal.returns-in-None
+returns-in-None c = tallied_set _ _ _ _ _ _ _ _ c.args.client (client_at c.self.inside.clients.known c.args.client) _ _ c.self.view_is refl c.stop.ensures refl
