@@ -155,8 +155,8 @@ impl<J: Job> Pool<J> {
 
     /// A worker takes the first ready job, and the pool grows by those that are ready then; or no job is ready. A job that
     /// was cancelled, or that bears a mark, is handed out to be dropped, and counts as one of its client's that run until
-    /// its turn ends. A queued job of a client without room, cancelled or marked as it may be, isn't taken until one of the
-    /// client's jobs that run has ended.
+    /// its turn ends. A queued job of a client without room, cancelled or marked as it may be, isn't taken until the client
+    /// has room: one of its turns has ended, or the client limit was raised or let go.
     pub fn take<S: Starter>(&mut self, pass: WorkerPass, starter: &mut S) -> Took<J>
         requires { self.old.counts.arriving < self.old.counts.idle }
         ensures answer { Takes J.may_answer (asked S.Starter starter.old starter.new)
@@ -357,7 +357,7 @@ impl<J: Job> Pool<J> {
     /// Sets how many jobs of each client may run at a time, or lets any number run. Where the limit rises, all waiting
     /// workers are notified, since jobs may be ready that weren't. A lower limit stops no running job: its client has room
     /// again when so many of its jobs have ended that fewer run than the limit. The pool doesn't grow. This goes through
-    /// the clients that have jobs.
+    /// the clients that have jobs, and through the queued jobs where no limit stood or none is to stand.
     pub fn set_client_limit(&mut self, limit: Option<usize>)
         requires { IfSome limit (λ most. 0 < most) }
         ensures { SetsClientLimit limit self.old self.new }

@@ -125,7 +125,8 @@ impl<J: Drop> Table<J> {
         self.queue.limit()
     }
 
-    /// Sets the client limit, or sets none. Goes through the clients.
+    /// Sets the client limit, or sets none. Goes through the clients, and through the queue where there was no limit or will
+    /// be none.
     pub(crate) fn set_client_limit(&mut self, limit: Option<usize>)
         requires { IfSome limit (λ most. 0 < most) }
         ensures same { HasJobs self.old (record self.new { client_limit = self.old.client_limit }) self.old.jobs }
