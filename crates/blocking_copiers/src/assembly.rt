@@ -13,7 +13,7 @@ use std::alloc::{AllocError, Global};
 use std::marker::Model;
 use std::sync::ledger::Ledger;
 
-/// The parts of a world, and the copiers that have told no end, the newest first.
+/// The parts of a world, and the copiers that have reported no end, the newest first.
 ///
 /// The parts can't be let go: [`Assembly::close`] takes them apart.
 pub struct Assembly {

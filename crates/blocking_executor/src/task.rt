@@ -25,8 +25,8 @@ enum Asked {
 /// A call under way: a future of its answer. Until the answer was taken it may be polled.
 ///
 /// Dropping it gives the call up: a call that wasn't begun by then need not be made, and one that runs goes on, with an answer
-/// that nobody gets. A call that was given up goes when a worker takes it, which where its client is at its limit of running jobs is once another job of
-/// that client is over. A drop waits for no call. [`detach`](Task::detach) lets the call go on without an owner. A task
+/// that nobody gets. A call that was given up goes when a worker takes it. Where its client is at its limit of running jobs, that is once
+/// another job of that client is over. A drop waits for no call. [`detach`](Task::detach) lets the call go on without an owner. A task
 /// whose job was dropped by somebody else stays pending.
 pub struct Task<F: Call<Out: Drop>, H: Wait + Copy> {
     // (who has none has added none)

@@ -11,7 +11,7 @@ use blocking_lock::OwnerWaker;
 use std::marker::Model;
 use std::sync::{Arc, Wait};
 
-/// The job that runs an iterator ahead of an owner: it asks the iterator for an item and sends it through the pipe, until the iterator
+/// The job that runs an iterator ahead of an owner. It asks the iterator for an item and sends it through the pipe, until the iterator
 /// ends or nobody wants more. Then it gives the iterator back. One item at most is out of the iterator and not in the pipe.
 ///
 /// One that is dropped before it is done drops the iterator and gives its slot up, with no lock held. That wakes an owner who waits there for

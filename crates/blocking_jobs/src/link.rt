@@ -1,5 +1,5 @@
-//! What the owner of a lent handle and its job share beside the pipe: the slot in which the handle comes back, under its lock, and
-//! the mark of a session whose owner is gone.
+//! What the owner of a lent handle and its job share in addition to the pipe. It is the slot in which the handle comes back, under
+//! its lock, and the mark of a session whose owner is gone.
 ghost use Rattle.std.specs.Prelude.{◌≡◌, true, false, OnErr, IfOk};
 ghost use Rattle.futures.specs.Task.{IsArmed, Keeps};
 
@@ -147,7 +147,7 @@ impl<T: Drop, X: Drop, H: Wait + Copy> WayBack<T, X, H> {
     }
 
     /// Takes the handle out of the slot, or waits there for it. Once it was taken nothing more comes, and a poll waits for good. It isn't
-    /// polled where the job was dropped before it gave the handle back, which a pool does only once the owner is gone: it would ask again
+    /// polled where the job was dropped before it gave the handle back, which a pool does only once the owner is gone. It would ask again
     /// and again.
     pub fn poll(&mut self, cx: &mut Context<'_>) -> Result<Returned<T, X>, Seat<OfSlot>>
         ensures back { IfOk result (λ _. self.new.is_back ≡ true) }

@@ -49,8 +49,9 @@ impl<T: Drop, H: Wait + Copy> Model for Reading<T, H> {
     ghost invariant = { λ w. 0 < vec_len w.piece };
 }
 
-/// The job that reads ahead of an owner: it asks its reader for as much as there is room for in the pipe, and puts there what it
-/// was given, until the reader ends or fails or nobody wants more. Then it gives the reader back, with all that it worked with.
+/// The job that reads ahead of an owner. It asks its reader for as much as there is room for in the pipe, and puts there what it
+/// was given. It does so until the reader ends or fails or nobody wants more. Then it gives the reader back, with all that it
+/// worked with.
 ///
 /// One that is dropped before it is done drops the reader and gives its slot up, with no lock held. That wakes an owner who waits there for
 /// the reader, and none who waits at the pipe. A pool drops a job only once its owner is gone.

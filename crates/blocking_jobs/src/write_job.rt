@@ -43,9 +43,9 @@ impl<T: Drop, H: Wait + Copy> Model for Writing<T, H> {
     ghost view = { λ w. record { writer = w.writer; piece = w.end.shown; received = w.end.received } };
 }
 
-/// The job that writes behind an owner: it offers its writer what stands at the front of the pipe, and lets go of what the writer took,
-/// until the owner wants no more and all is written, or the writer fails. Then it flushes the writer and gives it back, with all that it worked
-/// with.
+/// The job that writes behind an owner. It offers its writer what stands at the front of the pipe, and lets go of what the writer took. It
+/// does so until the owner wants no more and all is written, or the writer fails. Then it flushes the writer and gives it back, with all
+/// that it worked with.
 ///
 /// One that is dropped before it is done drops the writer and gives its slot up, with no lock held. That wakes an owner who waits there for
 /// the writer, and none who waits at the pipe. A pool drops a job only once its owner is gone. What wasn't written then is lost.

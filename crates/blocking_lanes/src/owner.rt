@@ -1,5 +1,5 @@
-//! The machine of an owner who lends its handle to jobs that read ahead of it, write behind it, give its items, move it or operate on it,
-//! until it takes the handle back.
+//! The machine of an owner who lends its handle to jobs until it takes the handle back. They read ahead of it, write behind it, give its
+//! items, move it or operate on it.
 ghost use Rattle.std.specs.Prelude.{◌≡◌, ◌<◌, ◌==◌, if◌then◌else◌, Some, None};
 ghost use Rattle.blocking_core.specs.declared.unblock.OwnerAction.TheVariants as action;
 ghost use Rattle.blocking_lanes.specs.Sessions.{serial_of};
@@ -83,8 +83,8 @@ pub enum OwnerNext {
     Acts(usize),
 }
 
-/// An owner: how many bytes or items the pipes of its sessions hold, the client whose its jobs are, the call that it was asked last, where it
-/// is in its polls, and its last session. The wakers in its seats are told as units.
+/// An owner. It has how many bytes or items the pipes of its sessions hold, and the client whose its jobs are. It has the call that it was
+/// asked last, where it is in its polls, and its last session. The wakers in its seats are units.
 ///
 /// It may hold the note of a job that has to be woken, so it can't be let go: [`Owner::into_note`] takes it apart.
 pub struct Owner {
@@ -248,9 +248,9 @@ impl Owner {
         matches!(self.stage, OwnerStage::Rests(_, _))
     }
 
-    /// Whether it may be asked for this: it is there, no poll of it is under way, once its handle is gone it is
-    /// only flushed and closed, once its handle was asked for for good it is only asked for that, and for the result of an operation it is asked
-    /// only where one is pending.
+    /// Whether it may be asked for this: it is there, and no poll of it is under way. Once its handle is gone it is only flushed and
+    /// closed. Once its handle was asked for for good it is only asked for that. For the result of an operation it is asked only where one
+    /// is pending.
     pub fn may_ask(&self, call: &HandleCall) -> bool
         ensures { result ≡ may_ask self.now call.now }
     {

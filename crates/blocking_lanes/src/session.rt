@@ -20,8 +20,8 @@ use blocking_laws::event::{Act, HolderWaker};
 use std::alloc::{AllocError, Global};
 use std::marker::Model;
 
-/// A session of an owner: the number of its job, the pipe between the two, the place in which the result of its operation comes, the slot
-/// in which the handle comes back, and where a seek left the handle.
+/// A session of an owner. It has the number of its job, the pipe between the two, and where a seek left the handle. It has the place in
+/// which the result of its operation comes, and the slot in which the handle comes back.
 #[derive(Drop)]
 pub(crate) struct Session {
     number: JobNo,

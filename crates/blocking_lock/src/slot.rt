@@ -8,8 +8,9 @@ use futures::task::{Context, Poll, Source, Waker};
 use std::marker::{Model, PhantomData};
 use std::sync::{Mutex, Wait};
 
-/// The owner's waker, or none where none could be registered. It may be let go where a section answered it, called or not: a waker of the kit
-/// wakes its task when it is dropped (its `wake` is its drop), as slots and pipes ask of theirs. At worst an owner is woken once too often.
+/// The owner's waker, or none where none could be registered. It may be let go where a section answered it, called or not. A waker of the
+/// kit wakes its task when it is dropped (its `wake` is its drop), as slots and pipes ask of theirs. At worst an owner is woken once too
+/// often.
 pub type OwnerWaker = Option<Waker>;
 
 /// What may stand in a slot: a type, and a rule of its values for contracts alone.
