@@ -8,7 +8,7 @@ use crate::runtime::Runtime;
 use crate::slot::{AnswerOf, Link};
 use blocking_core::pool::{Carries, Job, Refusal, Refused};
 use blocking_core::task::{Call, Looked, OfSlot, Over, Seat, Slotted};
-use blocking_lock::Found;
+use blocking_lock::KeptAnswer;
 use futures::Future;
 use futures::task::{Context, Poll, Source, Waker};
 use std::sync::{Arc, Wait};
@@ -177,7 +177,7 @@ impl<F: Call<Out: Drop>, H: Wait + Copy> Future for Task<F, H> {
 pub struct Cancel<F: Call<Out: Drop>, H: Wait + Copy> {
     link: Arc<Link<F>>,
     source: Source,
-    found: Found<AnswerOf<F>>,
+    found: KeptAnswer<AnswerOf<F>>,
     // What the slot answered to the last poll, where nothing was found: only a slot can.
     answer: Option<Slotted<F::Out>>,
     is_taken: bool,
@@ -190,7 +190,12 @@ impl<F: Call<Out: Drop>, H: Wait + Copy> Cancel<F, H> {
     ghost use Rattle.futures.specs.Poll.{IfReady, OnPending};
     ghost use Rattle.blocking_executor.specs.SlotAnswers.{settled};
 
-    fn new(rt: H, link: Arc<Link<F>>, source: Source, found: Found<AnswerOf<F>>) -> Cancel<F, H>
+    fn new(
+        rt: H,
+        link: Arc<Link<F>>,
+        source: Source,
+        found: KeptAnswer<AnswerOf<F>>,
+    ) -> Cancel<F, H>
         ensures fresh { result.is_taken ≡ false }
         ensures found { result.found ≡ found }
         ensures source_is { result.source ≡ source }
