@@ -19,17 +19,17 @@ impl<F: Call> Left for AnswerOf<F> {
 
 /// What the owner and the job share. Each method that takes the slot's lock makes one call of the slot under it.
 #[derive(Drop)]
-pub(crate) struct Link<F: Call<Out: Drop>> {
+pub(crate) struct CallShare<F: Call<Out: Drop>> {
     slot: LockedSlot<AnswerOf<F>>,
     // Whether the owner gave the call up.
     mark: AtomicBool,
 }
 
-impl<F: Call<Out: Drop>> Link<F> {
+impl<F: Call<Out: Drop>> CallShare<F> {
     ghost use Rattle.blocking_lock.specs.Slots.{IfLookedAt, IfPolled};
 
-    pub(crate) fn new() -> Link<F> {
-        Link {
+    pub(crate) fn new() -> CallShare<F> {
+        CallShare {
             slot: LockedSlot::new(),
             mark: AtomicBool::new(false),
         }
