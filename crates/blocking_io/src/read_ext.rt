@@ -164,7 +164,7 @@ const LEAST: usize = 4_096;
 
 const MOST: usize = 65_536;
 
-// Reads once, behind what is there. The memory is had before, so that no byte that was read is lost.
+// Reads once, behind what is there. The memory is taken before, so that no byte that was read is lost.
 fn append<A: AsyncRead>(
     reader: &mut A,
     cx: &mut Context<'_>,

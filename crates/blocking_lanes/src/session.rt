@@ -419,7 +419,7 @@ impl Session {
         self.passage.len().min(PIECE)
     }
 
-    // The job looks at the front of the pipe. The memory for what it finds there is had before it does.
+    // The job looks at the front of the pipe. The memory for what it finds there is taken before it does.
     fn find_piece(&mut self, alloc: Global, job: &mut WriteProgress) -> Result<Act, AllocError>
         requires { self.old.goods ≡ OfBytes }
         ensures ok { IfOk result (λ act. work_at_peek (found_piece self.old) job.old self.old

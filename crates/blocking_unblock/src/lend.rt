@@ -49,7 +49,7 @@ pub(crate) trait Lends<T: Drop, I: Drop, J: Job, H: Runtime> {
     /// What it has got by now.
     ghost keeps: { Self → Kept → Type 0 };
 
-    /// Hands the handle to the job of a new session, whose memory is had before it enters: what is spare, where the session has a use for it.
+    /// Hands the handle to the job of a new session, whose memory is taken before it enters: what is spare, where the session has a use for it.
     fn lend(
         &mut self,
         executor: &Executor<J, H>,
