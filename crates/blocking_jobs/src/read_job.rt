@@ -4,7 +4,7 @@ ghost use Rattle.std.specs.Io.KnownBytes.{ReadConsumes};
 ghost use Rattle.blocking_core.specs.declared.job.read.ReadAction.TheVariants.{FindRoom, Read as ReadPiece, Put as PutPiece, Close, Finish, Deliver};
 ghost use Rattle.blocking_core.specs.Reading.{new_read, read_next};
 
-use crate::link::{Given, Link, MayFail, SessionStore};
+use crate::share::{Given, MayFail, SessionShare, SessionStore};
 use blocking_core::io::JobFault;
 use blocking_core::job::{ReadAction, ReadAnswer, ReadCore};
 use blocking_core::pipe::{Put, Room};
@@ -65,7 +65,7 @@ pub struct ReadJob<T: Drop, H: Wait + Copy> {
     given: Option<Given<T>>,
     // The waker that was taken out of the owner's seat, and has to be called.
     waker: OwnerWaker,
-    link: Arc<Link<T, ReadBack<H>>>,
+    share: Arc<SessionShare<T, ReadBack<H>>>,
     rt: H,
 }
 
@@ -97,13 +97,13 @@ impl<T: Drop, H: Wait + Copy> ReadJob<T, H> {
     ghost use Rattle.blocking_jobs.specs.Readers.{ReadSeen};
 
     /// The job of a session that reads: `piece` is what it reads into, and `end` the pipe into which that goes. The reader comes back over
-    /// the link.
+    /// the share.
     pub fn new(
         rt: H,
         reader: T,
         piece: Vec<u8>,
         end: SendEnd<u8, AnyPlace, SessionStore, H>,
-        link: Arc<Link<T, ReadBack<H>>>,
+        share: Arc<SessionShare<T, ReadBack<H>>>,
     ) -> ReadJob<T, H>
         requires { 0 < vec_len piece }
         ensures { result ≡ record {
@@ -119,7 +119,7 @@ impl<T: Drop, H: Wait + Copy> ReadJob<T, H> {
             closed: None,
             given: None,
             waker: None,
-            link,
+            share,
             rt,
         }
     }
@@ -135,7 +135,7 @@ impl<T: Drop, H: Wait + Copy> ReadJob<T, H> {
             closed: _,
             given: _,
             waker: _,
-            link: _,
+            share: _,
             rt: _,
         } = self;
         match work {
@@ -240,7 +240,7 @@ impl<T: Read + Drop, H: Wait + Copy> ReadJob<T, H> {
             end,
             piece,
         };
-        let (wake, given) = self.link.give_back(&self.rt, reader, told);
+        let (wake, given) = self.share.give_back(&self.rt, reader, told);
         self.given = Some(given);
         let woke = wake.is_some();
         self.waker = wake.flatten();
@@ -273,7 +273,7 @@ impl<T: Drop, H: Wait + Copy> Drop for ReadJob<T, H> {
             closed: _,
             given: _,
             waker,
-            link,
+            share,
             rt,
         } = self;
         // The reader is gone before the owner is told. (a waker that is dropped wakes)
@@ -283,7 +283,7 @@ impl<T: Drop, H: Wait + Copy> Drop for ReadJob<T, H> {
         if let ReadAction::Done = core.next() {
             return;
         }
-        if let Some(Some(waker)) = link.give_up(&rt) {
+        if let Some(Some(waker)) = share.give_up(&rt) {
             // meeting: Call
             waker.wake();
         }
@@ -330,6 +330,6 @@ impl<T: Read + Drop, H: Wait + Copy> Job for ReadJob<T, H> {
     }
 
     fn abandoned(&self) -> bool {
-        self.link.is_marked()
+        self.share.is_marked()
     }
 }
