@@ -8,7 +8,7 @@ ghost use Rattle.blocking_core.specs.declared.unblock.State.TheVariants.{Idle, L
 ghost use Rattle.blocking_unblock.specs.Owners.{kind_of, crossed, is_back};
 ghost use Rattle.blocking_unblock.specs.Polls.{Kept, Onward};
 
-use crate::parts::{ItemParts, ReadParts, WriteParts, item_parts, read_parts, write_parts};
+use crate::new_session::{ItemParts, ReadParts, WriteParts, item_parts, read_parts, write_parts};
 use crate::session::{Session, Side};
 use crate::spare::Spare;
 use blocking_core::io::Position;
