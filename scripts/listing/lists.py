@@ -67,8 +67,9 @@ def items_of(module, parts):
     """The public items among these parts, and what impls of traits promise."""
     for part in parts:
         if part.kind == "use" and part.is_public:
-            text = "".join(line.strip() + " " * line.endswith("use") for line in part.lines)
-            yield from ((f"{module}: {path}", [path]) for path in used(text.removeprefix("pub use ").removesuffix(";")))
+            text = "".join(line.strip() for line in part.lines)
+            for path in used(text.removeprefix("pub use ").removesuffix(";")):
+                yield f"{module}: use {path.split('::')[-1]}", [path.split("::")[-1]]
         elif part.kind in OF_ITEMS and part.is_public:
             yield f"{module}::{part.name}", contract(part)
         elif part.kind == "impl":
