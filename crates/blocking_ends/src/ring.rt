@@ -1,4 +1,4 @@
-//! The two ends of a pipe of items that takes no lock for an item. It is a ring between two threads, and apart from it the seats of
+//! The two ends of a pipe of items that takes no lock for an item. It is a ring between two threads, and next to it the seats of
 //! those who wait.
 //!
 //! Each atomic act is named as the machine of a stream names it, which has them in every order (`blocking_schedule`).

@@ -260,10 +260,10 @@ impl<J: Job> Pool<J> {
         count
     }
 
-    /// A turn ends. The worker is free. A job that is over leaves the pool. A job that waits is parked, or goes back to
-    /// the queue's end where a wake met it since it was taken. A job that waits and was cancelled, or bears a mark, is
-    /// handed out to be dropped, and its turn goes on until then. A turn whose job isn't running in this pool comes back
-    /// as a stranger's, with the job that came with it, and the pool is as before.
+    /// A turn ends. A job that is over leaves the pool. A job that waits is parked, or goes back to the queue's end
+    /// where a wake met it since it was taken. The worker is free then. A job that waits and was cancelled, or bears a
+    /// mark, is handed out to be dropped, and its turn goes on until then. A turn whose job isn't running in this pool
+    /// comes back as a stranger's, with the job that came with it, and the pool is as before.
     pub fn end(&mut self, turn: Turn, finish: Finish<J>) -> Gone<J>
         ensures { Ends J.may_answer self.old turn finish result self.new }
     {

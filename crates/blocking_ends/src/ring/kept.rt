@@ -1,4 +1,4 @@
-//! What stands under a lock apart from an item ring: the seats of those who wait, and where the items end.
+//! What stands under a lock next to an item ring: the seats of those who wait, and where the items end.
 ghost use Rattle.std.specs.Prelude.{◌≡◌, None, Some, IfSome};
 
 use crate::rule::PlaceRule;
