@@ -21,13 +21,13 @@ const USAGE: &str = "usage: blk call N | blk limit [TEXT] | blk steps | blk copy
 ///
 /// The words are those after the program's name; a word is None where it isn't UTF-8. The status is 0 once the answer
 /// is written to `output`. It is 2 where the words are a wrong command line, or the input is no script where one is
-/// asked for: `faults` is told which, and nothing is written to `output`. It is 1 where there was no memory, `input` couldn't be
-/// read or `output` couldn't be written, which `faults` is told as well. `setting` is the text that limits the pool's
-/// workers, if there is one; a script has its own. Only a script is read from `input`.
+/// asked for. Then `faults` says which, and nothing is written to `output`. It is 1 where there was no memory, `input` couldn't
+/// be read or `output` couldn't be written, which `faults` says as well. `setting` is the text that limits the pool's workers,
+/// if there is one; a script has its own. Only a script is read from `input`.
 ///
-/// What is told is one line, and nothing but a first part of it is ever written to `faults`. All of it is written where the
-/// writes to `faults` succeed; a failed one changes nothing else, and isn't told of. So the contract promises the first part,
-/// and that it is the whole line is shown by tests.
+/// What `faults` says is one line, and nothing but a first part of it is ever written. All of it is written where the writes
+/// to `faults` succeed; a failed one changes nothing else, and isn't reported. So the contract promises the first part, and
+/// that it is the whole line is shown by tests.
 pub fn command<H: Host, R: Read, W: Write, F: Write>(
     rt: H,
     words: &[Option<String>],

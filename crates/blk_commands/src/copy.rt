@@ -33,8 +33,8 @@ fn outcome(copied: Result<u64, CopyFault>) -> Result<(), BlkFault> {
 /// workers `setting` limits, if there is one.
 ///
 /// It fails where a session is refused, where the reader or the writer fails, and where the copy couldn't be awaited. A fault of the
-/// reader is told at once: of what was read before it some beginning is written, and nothing need be flushed. The reader and the writer
-/// are dropped before long.
+/// reader is reported at once: of what was read before it some beginning is written, and nothing need be flushed. The reader and the
+/// writer are dropped before long.
 pub fn copy<H: Host, R: Read + Drop + Send + 'static, W: Write + Drop + Send + 'static>(
     rt: H,
     setting: Option<&str>,

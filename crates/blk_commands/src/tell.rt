@@ -1,4 +1,4 @@
-//! What is told on standard error.
+//! What is said on standard error.
 ghost use Rattle.std.specs.Prelude.{IfSome, OnOk};
 ghost use Rattle.std.specs.Io.KnownBytes.{Appends};
 ghost use Rattle.blk_commands.specs.Outcomes.{AppendsPart};

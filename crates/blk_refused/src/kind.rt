@@ -41,8 +41,8 @@ impl Kind {
         None
     }
 
-    /// What is got where the handle is at this place: the byte or the item there, how many bytes are taken, the place seven bytes on, or this
-    /// place itself.
+    /// What is got where the handle is at this place. It is the byte or the item there, how many bytes are taken, the place seven bytes on,
+    /// or this place itself.
     pub(crate) fn got_at(self, place: u64) -> u64 {
         match self {
             Kind::Read | Kind::Next => place % 256,

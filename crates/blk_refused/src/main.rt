@@ -12,7 +12,7 @@
 //! | `halves ROUNDS` | so many copies are left halfway, one after another |
 //! | `whole` | a read to the end |
 //! | `ends KIND`, `sweeps KIND`, `stops KIND`, `drops KIND` | a session, which has begun, comes to its end, does so while its pool is swept again and again, is stopped, or loses its owner, while all is refused |
-//! | `inside KIND`, `short KIND`, `gone KIND` | many owners, whose jobs wait, leave where the one worker is inside a call and there may be no other, where another may be asked for, or where none is left |
+//! | `inside KIND`, `short KIND`, `gone KIND` | many owners, whose jobs wait, leave: where the one worker is inside a call and there may be no other; where another may be asked for; or where none is left |
 //! | `leaves` | calls are awaited, cancelled, dropped and detached while all is refused |
 #![tactic(auto)]
 

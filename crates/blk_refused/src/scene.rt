@@ -230,7 +230,8 @@ impl<J: Carrier<H>, H: Host> Scene<J, H> {
         })
     }
 
-    /// Reads to the end, behind what is there. Got is how many bytes that are, and want of memory for them is told as that of a session is.
+    /// Reads to the end, behind what is there. Got is how many bytes that are, and want of memory for them is reported as that of a session
+    /// is.
     pub(crate) fn read_all(&mut self, text: &mut Vec<u8>) -> io::Result<Came> {
         let Some(owner) = &mut self.owner else {
             return Ok(Came::Wrong);

@@ -21,7 +21,7 @@ pub type Items<D, I, H, J = ItemJob<D, I, H>> = Unblock<D, I, J, H>;
 /// The jobs of an executor whose files are read, written and sought.
 pub type FileJobs<H> = Jobs<H, Unused, File, File, Unused, File>;
 
-/// The same beside calls of type `F`.
+/// The same, and calls of type `F`.
 pub type CallFileJobs<H, F> = Jobs<H, F, File, File, Unused, File>;
 
 /// The jobs of an executor that copies from readers to writers.

@@ -90,7 +90,8 @@ impl<T: Drop, I: Drop, J: Job, H: Runtime> Open<T, I, J, H> {
     }
 
     /// A future of the handle, for good, as [`Unblock::into_inner`] has it. A session that is under way is stopped first: what was read ahead is
-    /// lost, what is to be written is written and flushed, and its fault isn't told. Until the handle was taken it may be polled.
+    /// lost, what is to be written is written and flushed, and its fault isn't reported. Until the handle was taken it may be
+    /// polled.
     pub fn into_inner(self) -> IntoInner<T, I, J, H>
         ensures { result.owner ≡ Some self.owner }
     {
@@ -127,7 +128,7 @@ impl<T: Drop, I: Drop, J: Job, H: Runtime> Open<T, I, J, H> {
     ghost use Rattle.blocking_anytime.specs.Loans.{lends_open_handle};
 
     /// Waits until the handle is with its owner, as [`Unblock::poll_idle`] does. A session that is under way is stopped first: what was read
-    /// ahead is lost, what is to be written is written and flushed, and its fault isn't told.
+    /// ahead is lost, what is to be written is written and flushed, and its fault isn't reported.
     ///
     /// A poll that waits has registered, and is polled again.
     pub fn poll_idle(&mut self, cx: &mut Context<'_>) -> Poll<()>
@@ -214,7 +215,7 @@ impl<T: Write + Drop, I: Drop, J: Job + Carries<WriteJob<T, H>>, H: Runtime> Asy
         self.owner.poll_write(cx, bytes)
     }
 
-    /// Waits until all that was taken is written and flushed, or answers why it isn't. A fault is told once.
+    /// Waits until all that was taken is written and flushed, or answers why it isn't. A fault is reported once.
     fn poll_flush(&mut self, cx: &mut Context<'_>) -> Poll<Result<(), IoFault>>
         ensures follows { Follows FlushCall self.old.owner.place (reply_of_done result) self.new.owner.place }
         ensures at_once { KeepsAtOnce FlushCall self.old.owner.place self.new.owner.place }

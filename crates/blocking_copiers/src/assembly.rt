@@ -13,7 +13,7 @@ use std::alloc::{AllocError, Global};
 use std::marker::Model;
 use std::sync::ledger::Ledger;
 
-/// The parts of a world, and the copiers that have told no end, the newest first.
+/// The parts of a world, and the copiers that have reported no end, the newest first.
 ///
 /// The parts can't be let go: [`Assembly::close`] takes them apart.
 pub struct Assembly {
@@ -126,7 +126,7 @@ impl Assembly {
         self.parts.step(Step::Own(owner), starter)
     }
 
-    // The same of an owner that is lent to the copier at this place. The room for the bytes that the copier keeps is had first.
+    // The same of an owner that is lent to the copier at this place. The room for the bytes that the copier keeps is taken first.
     fn own_lent<S: Starter>(
         &mut self,
         owner: usize,
@@ -210,7 +210,7 @@ impl Assembly {
     }
 
     // The copier of this number does what it does next, unless a poll of one of its owners is under way. The memory for the bytes that it
-    // writes is had first.
+    // writes is taken first.
     fn copy(&mut self, number: usize) -> Result<Event, AllocError>
         ensures ok { IfOk result (λ e. CopiesAt number (copier_at number self.old.copiers) self.old e self.new) }
         ensures err { OnErr result (self.new ≡ self.old) }

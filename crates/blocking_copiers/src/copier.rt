@@ -94,7 +94,7 @@ impl Copier {
         self.writer
     }
 
-    /// Hears what one of its owners did: the bytes that it got are kept in this room, which is empty and large enough, and a reply is the
+    /// Hears what one of its owners did. The bytes that it got are kept in this room, which is empty and large enough; a reply is the
     /// answer to what the copier asked. Takes no memory.
     pub(crate) fn hear(&mut self, act: &Act, room: Vec<u8>)
         requires empty { room.items ≡ [] }

@@ -1,4 +1,4 @@
-//! What all assemblies keep, beside what their steps do. Bodies are empty.
+//! What all assemblies keep, apart from what their steps do. Bodies are empty.
 ghost use Rattle.std.specs.Prelude.{◌≡◌, ◌<◌, ◌≤◌, ℕ, Bool, List, [], ◌∷◌, length};
 ghost use Rattle.blocking_pool.specs.Pools.{empty_pool};
 ghost use Rattle.blocking_laws.specs.Growth.{IsPlanned};
@@ -10,8 +10,8 @@ ghost use Rattle.blocking_parts.specs.Carried.{bytes_of};
 ghost use Rattle.blocking_copiers.specs.Assemblies.{Assembled, Does, bytes_to_come};
 ghost use Rattle.blocking_copiers.specs.Ties.{IsLawful};
 
-/// Whatever step a lawful assembly takes, by the starts of a plan: it stays lawful, with the moment of the step added to what was seen, and
-/// its setting stays. The event carries no more bytes than were told before the step, of a lawful assembly or another.
+/// Whatever step a lawful assembly takes, by the starts of a plan, it stays lawful, and its setting stays. The moment of the step is added
+/// to what was seen. The event carries no more bytes than were announced before the step, of a lawful assembly or another.
 pub fn each_step()
     ensures lawful { (setting : ℕ) (plan : List Bool) (w new : Assembled) (past : List Moment)
         (step : Step) (e : Event) → IsLawful setting plan w past →

@@ -81,8 +81,8 @@ impl<E: fmt::Display> fmt::Display for Fault<E> {
 
 impl<E: Error> Error for Fault<E> {}
 
-/// So that a `?` passes a fault on where errors of the system go: the handle's own error is handed on as it is, a write that got nothing on
-/// is of the kind [`WriteZero`](io::ErrorKind::WriteZero), and a refusal is of the kind that it is as an error of the system.
+/// So that a `?` passes a fault on where errors of the system go. The handle's own error is handed on as it is. A write that got nothing on
+/// is of the kind [`WriteZero`](io::ErrorKind::WriteZero). A refusal is of the kind that it is as an error of the system.
 impl From<Fault<io::Error>> for io::Error {
     ghost use Rattle.blocking_core.specs.Faults.{IsToldAs};
 

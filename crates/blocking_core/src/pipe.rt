@@ -224,8 +224,8 @@ pub enum Filled {
     Waits(Seat<OfPipe>),
 }
 
-/// The answer to an owner, and the waker that it leaves over: the one that was handed in, where the owner needn't wait, or
-/// the one that it replaced in the seat. It is handed back so that no lock is held while it is dropped.
+/// The answer to an owner, and the waker that it leaves over. That is the one that was handed in, where the owner needn't
+/// wait, or the one that it replaced in the seat. It is handed back so that no lock is held while it is dropped.
 pub struct Answered<A, W> {
     /// What is answered.
     pub answer: A,
@@ -529,8 +529,8 @@ impl<X: Copy, W: Drop, S: CopyStore<X>> Pipe<X, W, S> {
         Peeked::Parked
     }
 
-    /// The job is lent the front of what is inside, `most` items at most, in a piece: that which it hands in, whose items are gone then, or one
-    /// of the store's own for it. Where the pipe is empty and the owner's end is open the job is seated.
+    /// The job is lent the front of what is inside, `most` items at most, in a piece. It is that which it hands in, whose items are gone
+    /// then, or one of the store's own for it. Where the pipe is empty and the owner's end is open the job is seated.
     pub fn lend_or_seat(&mut self, me: JobNo, most: usize, piece: &mut Vec<X>) -> Peeked
         requires some { 0 < most }
         requires fits { most ≤ vec_capacity piece.old }
@@ -572,8 +572,8 @@ impl<X: Copy, W: Drop, S: CopyStore<X>> Pipe<X, W, S> {
         }
     }
 
-    /// Lends the front of what is inside, `most` items at most, in a piece: that which is handed in, whose items are gone then, or one of the
-    /// store's own for it. `None` where the pipe is empty. Nobody is seated.
+    /// Lends the front of what is inside, `most` items at most, in a piece. It is that which is handed in, whose items are gone then, or
+    /// one of the store's own for it. `None` where the pipe is empty. Nobody is seated.
     pub fn fetch(&mut self, most: usize, piece: &mut Vec<X>) -> Option<usize>
         requires some { 0 < most }
         requires fits { most ≤ vec_capacity piece.old }

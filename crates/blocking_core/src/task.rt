@@ -85,8 +85,8 @@ pub enum Slotted<T: Drop> {
     Waits(Seat<OfSlot>),
 }
 
-/// The answer of a poll, and the waker that it leaves over: the one that was handed in, where the poll is ready, or the
-/// one that it replaced in the seat. It is handed back so that no lock is held while it is dropped.
+/// The answer of a poll, and the waker that it leaves over. That is the one that was handed in, where the poll is
+/// ready, or the one that it replaced in the seat. It is handed back so that no lock is held while it is dropped.
 #[derive(Drop)]
 pub struct Polled<T: Drop, W: Drop> {
     pub answer: Slotted<T>,

@@ -162,8 +162,8 @@ pub enum OwnerAnswer<E: Drop> {
 
 /// What one poll of an owner does: its next action, and the answer decides what follows.
 ///
-/// A poll begins by its call and where the handle is. From a session that isn't the call's own it first stops that session:
-/// it closes the owner's end, waits for the handle, and goes on as if it had been idle.
+/// A poll begins by its call and where the handle is. From a session that isn't the call's own it first stops that session.
+/// It closes the owner's end, waits for the handle, and goes on as if it had been idle.
 #[derive(Clone, Copy, Debug)]
 pub struct OwnerCall<E> {
     call: PollCall,

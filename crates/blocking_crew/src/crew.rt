@@ -71,8 +71,8 @@ impl Crew {
         }
     }
 
-    /// A new job of this client, which this party brings, enters the queue, and the pool grows; or it is refused, and the queue and the jobs
-    /// are as before.
+    /// A new job of this client, which this party brings, enters the queue, and the pool grows. Or it is refused, and the queue and the
+    /// jobs are as before.
     pub fn add<S: Starter>(&mut self, party: Party, client: u32, starter: &mut S) -> Added
         ensures { Moves (S.may_answer starter.old)
             (Add party client result.number) self.old result.event self.new }
@@ -87,8 +87,8 @@ impl Crew {
         Added { number, event }
     }
 
-    /// A new job, which this party brings, is refused, since there was no memory for what it needs beside its place in the pool; or for its
-    /// number, where the numbers are used up. Nothing changes: why, and what is seen of it, whoever its client is.
+    /// A new job, which this party brings, is refused, since there was no memory for what it needs in addition to its place in the pool.
+    /// Where the numbers are used up it is refused for its number. Nothing changes: why, and what is seen of it, whoever its client is.
     pub fn refuse(&self, party: Party) -> (Refusal, Event)
         ensures { (client : ℕ) →
             Moves NeverAsked (Add party client (Err result.0)) self.now result.1 self.now }
@@ -112,7 +112,8 @@ impl Crew {
         Ok(seen(party, None, Act::Arrived(worker), first, NO_GROWTH))
     }
 
-    /// An idle worker takes the first ready job, to run it or to drop it, and the pool grows by those that are ready then; or no job is ready.
+    /// An idle worker takes the first ready job, to run it or to drop it, and the pool grows by those that are ready then. Or no job is
+    /// ready.
     pub fn take<S: Starter>(&mut self, worker: usize, starter: &mut S) -> Event
         ensures { Moves (S.may_answer starter.old) (Take worker) self.old result self.new }
     {
@@ -310,8 +311,8 @@ impl Crew {
         self.tickets.pool()
     }
 
-    /// Ends every turn, as done, and then lets every worker go: each takes what is queued, whatever the client limit was, and ends it as done,
-    /// and waits until its time is up, until it stops. No worker may be started any more. Takes no memory.
+    /// Ends every turn, as done, and then lets every worker go. Each takes what is queued, whatever the client limit was, and ends it as
+    /// done. Then it waits until its time is up, until it stops. No worker may be started any more. Takes no memory.
     pub fn close<S: Starter>(self, starter: &mut S)
         requires { RefusesAll (S.may_answer starter.old) }
     {

@@ -1,4 +1,4 @@
-//! What every crew keeps, beside what its calls do. Bodies are empty.
+//! What every crew keeps, apart from what its calls do. Bodies are empty.
 ghost use Rattle.std.specs.Prelude.{◌≡◌, ℕ, Bool, true, List, [], ◌∷◌, Option, Ok, is_some};
 ghost use Rattle.blocking_pool.specs.Jobs.{JobNumber};
 ghost use Rattle.blocking_pool.specs.Pools.{empty_pool};
@@ -14,9 +14,10 @@ ghost use Rattle.blocking_crew.specs.Moves.{Call, Add, Moves};
 ghost use Rattle.blocking_crew.specs.Ties.{CrewHolds, Served};
 ghost use Rattle.blocking_crew.specs.Ties.{IsAsked, IsAside, IsNumberOf, seen_as};
 
-/// Whatever call a crew takes, whatever step of the layer above it was and whoever's job: the crew hangs together with what was
-/// seen, and the law of the pool holds, if the layer above gave what the call asks of it. The number of a job stays its number,
-/// and queued jobs are served as before. An event that is nothing to the crew changes none of it.
+/// Whatever call a crew takes, whatever step of the layer above it was and whoever's job, two things hold. They hold if
+/// the layer above gave what the call asks of it. The crew hangs together with what was seen, and the law of the pool
+/// holds. The number of a job stays its number, and queued jobs are served as before. An event that is nothing to the crew
+/// changes none of it.
 pub fn each_call()
     ensures holds { (setting : ℕ) (plan : List Bool) (crew new : Crew) (past : List Moment)
         (call : Call) (e : Event) (step : Step) (owner : Option ℕ) →

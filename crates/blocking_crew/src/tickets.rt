@@ -1,4 +1,4 @@
-//! A pool of tickets, with what is told of its growth.
+//! A pool of tickets, with what is reported of its growth.
 ghost use Rattle.std.specs.Prelude.{◌≡◌, ◌<◌, ◌≤◌, ◌+◌, ◌-◌, length, [], ℕ, Bool, true, false, Err, None, IfSome};
 ghost use Rattle.blocking_pool.specs.Growth.{is_due, greatest, number_after};
 ghost use Rattle.blocking_pool.specs.Counts.{limit_of};

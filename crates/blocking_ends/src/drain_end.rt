@@ -12,12 +12,12 @@ use blocking_pool::pool::WakeNote;
 use futures::task::{Context, Poll, Source};
 use std::sync::{Arc, Mutex, MutexGuard, Wait};
 
-/// The end of an owner that receives from its job, as a [`RecvEnd`](crate::RecvEnd) does, and over a store of pieces copies under no lock: it is
-/// lent the front of the pipe in a piece, moves items out of that, and lets go of the piece once all of it was moved out. Until then those items
-/// take room: where nothing is left in its hand, nothing is lent to it.
+/// The end of an owner that receives from its job, as a [`RecvEnd`](crate::RecvEnd) does. Over a store of pieces it copies under no lock.
+/// It is lent the front of the pipe in a piece, moves items out of that, and lets go of the piece once all of it was moved out. Until then
+/// those items take room: where nothing is left in its hand, nothing is lent to it.
 ///
-/// A call that needs the pipe uses it only where that has the count that this end knows of, and has lent as much as this end was lent, and else
-/// tries again.
+/// A call that needs the pipe uses it only where that has the count that this end knows of, and has lent as much as this end was lent. Else
+/// it tries again.
 ///
 /// Dropping it closes nothing, and a job that waits for room stays parked: it is closed first.
 #[derive(Drop)]
@@ -177,7 +177,7 @@ impl<X: Copy, R: PlaceRule<X>, S: CopyStore<X>, H: Wait + Copy> DrainEnd<X, R, S
         note
     }
 
-    /// Moves the first items into `out`, as many as there are in hand and it holds, and answers the note of a job that waits, which has to
+    /// Moves the first items into `out`, as many as there are in hand and it holds. It answers the note of a job that waits, which has to
     /// be spent. Where the pipe is empty and the job's end is open the poll waits.
     pub fn drain_or_seat(&mut self, cx: &mut Context<'_>, out: &mut [X]) -> Drained
         requires { 0 < length out.old }

@@ -538,8 +538,8 @@ impl<X: Copy, R: PlaceRule<X>, S: CopyStore<X>> OwnerToJob<X, R, S> {
         self.pipe.peek_or_seat(me, out)
     }
 
-    /// The job, which has nothing in its hand, is lent the front of what is inside, so many items at most, each of which holds at its place, or
-    /// finds the end.
+    /// The job, which has nothing in its hand, is lent the front of what is inside, or finds the end. It gets so many items at most, and
+    /// each holds at its place.
     pub(crate) fn lend_or_seat(&mut self, me: JobNo, most: usize, piece: &mut Vec<X>) -> Peeked
         requires none { self.old.pipe.lent ≡ 0 }
         requires some { 0 < most }

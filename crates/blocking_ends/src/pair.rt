@@ -62,8 +62,8 @@ pub struct PieceMemory<X: Drop, S: Store<X>> {
 }
 
 impl<X: Drop, S: Store<X>> PieceMemory<X, S> {
-    /// The memory of a pipe over that of a store in which nothing stands. The pieces are taken here, as long as those of the store (where
-    /// that takes none, there is one for the receiver alone, of 65,536 items or of the capacity, if that is less). Where there isn't so much
+    /// The memory of a pipe over that of a store in which nothing stands. The pieces are taken here, as long as those of the store. Where
+    /// that takes none, there is one for the receiver alone, of 65,536 items or of the capacity, if that is less. Where there isn't so much
     /// the answer is an [`AllocError`].
     pub fn over(alloc: Global, store: S::Memory) -> Result<Self, AllocError>
         requires some { let stored = S.held store in 0 < stored.capacity }

@@ -13,8 +13,8 @@ use std::sync::{Arc, Mutex, MutexGuard, Wait};
 /// The end of a job that receives from its owner: the item from each place holds there, by the rule `R`. The job copies items, or is lent them
 /// and looks at them under no lock. Either way they take room until it lets them go.
 ///
-/// As at the other end, a call uses the pipe only where that has the count that this end knows of and has lent as much as it still has, and
-/// else tries again.
+/// As at the other end, a call uses the pipe only where that has this end's count and has lent as much as it still has. Else it tries
+/// again.
 ///
 /// A waker that a call answers was taken out of its seat, and is to be called. One that is let go calls itself.
 ///
@@ -221,8 +221,8 @@ impl<X: Copy, R: PlaceRule<X>, S: CopyStore<X>, H: Wait + Copy> PeekEnd<X, R, S,
         peeked
     }
 
-    /// Lends the first items, which take room until they are consumed: what is left of those that were lent last, though more may be behind them,
-    /// or else the next ones. Where the pipe is empty and the owner's end is open the job is seated.
+    /// Lends the first items, which take room until they are consumed. They are what is left of those that were lent last, though more may
+    /// be behind them, or else the next ones. Where the pipe is empty and the owner's end is open the job is seated.
     pub fn lend_or_seat(&mut self, me: JobNo) -> Peeked
         ensures rest { 0 < length self.old.shown → self.new ≡ self.old }
         ensures received { self.new.received ≡ self.old.received }

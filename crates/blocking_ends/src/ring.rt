@@ -1,4 +1,5 @@
-//! The two ends of a pipe of items that takes no lock for an item: a ring between two threads, and beside it the seats of those who wait.
+//! The two ends of a pipe of items that takes no lock for an item. It is a ring between two threads, and next to it the seats of
+//! those who wait.
 //!
 //! Each atomic act is named as the machine of a stream names it, which has them in every order (`blocking_schedule`).
 ghost use Rattle.std.specs.Prelude.{◌≡◌, ◌+◌, ◌<◌, length, IfOk};

@@ -3,7 +3,7 @@ ghost use Rattle.std.specs.Prelude.{ℕ};
 
 /// A rule of items by their places, for contracts alone. An item's place is the number of items that were sent before it.
 ///
-/// Whoever sends owes it, and whoever receives may rely on it: it holds of the item at each place, and at the place at
+/// Whoever sends owes it, and whoever receives may rely on it. It holds of the item at each place, and at the place at
 /// which the sender closed its end.
 pub trait PlaceRule<X> {
     /// What holds of the item at a place.

@@ -11,7 +11,7 @@ use std::sync::{Arc, Mutex, MutexGuard, Wait};
 /// The end of a job that sends to its owner: each item holds at its place, by the rule `R`.
 ///
 /// Each call takes the pipe's lock, makes one call of the pipe and lets go. It uses the pipe only where that has the counts
-/// that this end knows of, which for the pair that was made it always has; else it lets go and tries again.
+/// that this end knows of, which for the pair that was made it always has. Else it lets go and tries again.
 ///
 /// A waker that a call answers was taken out of its seat, and is to be called. One that is let go calls itself.
 ///
@@ -81,7 +81,7 @@ impl<X: Drop, R: PlaceRule<X>, S: Store<X>, H: Wait + Copy> SendEnd<X, R, S, H> 
         room
     }
 
-    /// Sends an item. Where the pipe is full the job is seated and the item comes back; it also comes back where the owner's end
+    /// Sends an item. Where the pipe is full the job is seated and the item comes back. It also comes back where the owner's end
     /// is closed, or this one, or where no more than 18446744073709551615 items may be sent in all.
     pub fn send(&mut self, me: JobNo, item: X) -> Sending<X, OwnerWaker>
         requires { R.holds self.old.sent item }

@@ -2,7 +2,7 @@
 ghost use Rattle.std.specs.Prelude.{◌≡◌, Some, None};
 ghost use Rattle.blocking_core.specs.declared.job.Action.{Action};
 
-use crate::slot::Link;
+use crate::slot::CallShare;
 use blocking_core::job::{Action, Answer, CallCore};
 use blocking_core::pool::{Carries, Job, JobNo, JobStep, Refused};
 use blocking_core::task::{Call, Put};
@@ -26,7 +26,7 @@ enum Stage<F: Drop, T: Drop> {
 pub struct CallJob<F: Call<Out: Drop> + Drop, H: Wait + Copy> {
     core: CallCore,
     stage: Stage<F, F::Out>,
-    link: Arc<Link<F>>,
+    share: Arc<CallShare<F>>,
     rt: H,
 }
 
@@ -48,13 +48,13 @@ impl<F: Call<Out: Drop> + Drop, H: Wait + Copy> CallJob<F, H> {
     ghost use Rattle.std.specs.Prelude.{IsSome};
     ghost use Rattle.blocking_executor.specs.Calls.{CallSeen, IsAnswered};
 
-    pub(crate) fn new(rt: H, call: F, link: Arc<Link<F>>) -> CallJob<F, H>
+    pub(crate) fn new(rt: H, call: F, share: Arc<CallShare<F>>) -> CallJob<F, H>
         ensures { result ≡ record { next = Action.Call; call = Some call } }
     {
         CallJob {
             core: CallCore::new(),
             stage: Stage::Call(call),
-            link,
+            share,
             rt,
         }
     }
@@ -66,7 +66,7 @@ impl<F: Call<Out: Drop> + Drop, H: Wait + Copy> CallJob<F, H> {
         let CallJob {
             core: _,
             stage,
-            link: _,
+            share: _,
             rt: _,
         } = self;
         match stage {
@@ -106,7 +106,7 @@ impl<F: Call<Out: Drop> + Drop, H: Wait + Copy> CallJob<F, H> {
         let Stage::Finish(value) = mem::replace(&mut self.stage, Stage::Done) else {
             unreachable!()
         };
-        let Put { back, wake } = self.link.put(&self.rt, value);
+        let Put { back, wake } = self.share.put(&self.rt, value);
         // (a value that nobody wants is dropped under no lock)
         drop(back);
         match wake {
@@ -135,7 +135,7 @@ impl<F: Call<Out: Drop> + Drop, H: Wait + Copy> Drop for CallJob<F, H> {
         let CallJob {
             core,
             stage,
-            link,
+            share,
             rt,
         } = self;
         // The call, or a value that nobody got, is gone before the owner is told. (a waker that is dropped wakes)
@@ -143,7 +143,7 @@ impl<F: Call<Out: Drop> + Drop, H: Wait + Copy> Drop for CallJob<F, H> {
         if let Action::Done = core.next() {
             return;
         }
-        if let Some(Some(waker)) = link.give_up(&rt) {
+        if let Some(Some(waker)) = share.give_up(&rt) {
             // meeting: Call
             waker.wake();
         }
@@ -192,6 +192,6 @@ impl<F: Call<Out: Drop> + Drop, H: Wait + Copy> Job for CallJob<F, H> {
     }
 
     fn abandoned(&self) -> bool {
-        self.link.is_marked()
+        self.share.is_marked()
     }
 }

@@ -1,7 +1,7 @@
 //! What the owner of a call and its job share: the slot of the call under its lock, and the mark of a call that is given up.
 //! What stands in the slot is a value that the call may give.
 use blocking_core::task::{Call, Looked, Put, Slotted};
-use blocking_lock::{Found, Left, LockedSlot, OwnerWaker};
+use blocking_lock::{KeptAnswer, Left, LockedSlot, OwnerWaker};
 use std::marker::PhantomData;
 use std::sync::Wait;
 use std::sync::atomic::{AtomicBool, Ordering};
@@ -19,17 +19,17 @@ impl<F: Call> Left for AnswerOf<F> {
 
 /// What the owner and the job share. Each method that takes the slot's lock makes one call of the slot under it.
 #[derive(Drop)]
-pub(crate) struct Link<F: Call<Out: Drop>> {
+pub(crate) struct CallShare<F: Call<Out: Drop>> {
     slot: LockedSlot<AnswerOf<F>>,
     // Whether the owner gave the call up.
     mark: AtomicBool,
 }
 
-impl<F: Call<Out: Drop>> Link<F> {
+impl<F: Call<Out: Drop>> CallShare<F> {
     ghost use Rattle.blocking_lock.specs.Slots.{IfLookedAt, IfPolled};
 
-    pub(crate) fn new() -> Link<F> {
-        Link {
+    pub(crate) fn new() -> CallShare<F> {
+        CallShare {
             slot: LockedSlot::new(),
             mark: AtomicBool::new(false),
         }
@@ -71,7 +71,7 @@ impl<F: Call<Out: Drop>> Link<F> {
         self.slot.poll(rt, waker)
     }
 
-    pub(crate) fn abandon<R: Wait>(&self, rt: &R) -> Found<AnswerOf<F>> {
+    pub(crate) fn abandon<R: Wait>(&self, rt: &R) -> KeptAnswer<AnswerOf<F>> {
         self.slot.abandon(rt)
     }
 }

@@ -5,10 +5,10 @@ use crate::executor::Executor;
 use crate::held::Entered;
 use crate::job::CallJob;
 use crate::runtime::Runtime;
-use crate::slot::{AnswerOf, Link};
+use crate::slot::{AnswerOf, CallShare};
 use blocking_core::pool::{Carries, Job, Refusal, Refused};
 use blocking_core::task::{Call, Looked, OfSlot, Over, Seat, Slotted};
-use blocking_lock::Found;
+use blocking_lock::KeptAnswer;
 use futures::Future;
 use futures::task::{Context, Poll, Source, Waker};
 use std::sync::{Arc, Wait};
@@ -25,13 +25,13 @@ enum Asked {
 /// A call under way: a future of its answer. Until the answer was taken it may be polled.
 ///
 /// Dropping it gives the call up: a call that wasn't begun by then need not be made, and one that runs goes on, with an answer
-/// that nobody gets. A call that was given up goes when a worker takes it, which where its client is at its limit of running jobs is once another job of
-/// that client is over. A drop waits for no call. [`detach`](Task::detach) lets the call go on without an owner. A task
+/// that nobody gets. A call that was given up goes when a worker takes it. Where its client is at its limit of running jobs, that is once
+/// another job of that client is over. A drop waits for no call. [`detach`](Task::detach) lets the call go on without an owner. A task
 /// whose job was dropped by somebody else stays pending.
 pub struct Task<F: Call<Out: Drop>, H: Wait + Copy> {
     // (who has none has added none)
     job: Entered,
-    link: Arc<Link<F>>,
+    share: Arc<CallShare<F>>,
     source: Source,
     // What the slot answered to the last poll that waits.
     asked: Option<Asked>,
@@ -42,13 +42,13 @@ pub struct Task<F: Call<Out: Drop>, H: Wait + Copy> {
 }
 
 impl<F: Call<Out: Drop>, H: Wait + Copy> Task<F, H> {
-    pub(crate) fn new(rt: H, link: Arc<Link<F>>, job: Entered) -> Task<F, H>
+    pub(crate) fn new(rt: H, share: Arc<CallShare<F>>, job: Entered) -> Task<F, H>
         ensures fresh { result.is_taken ≡ false }
         ensures job { result.job ≡ job }
     {
         Task {
             job,
-            link,
+            share,
             source: Source::new(),
             asked: None,
             unseated: None,
@@ -68,14 +68,14 @@ impl<F: Call<Out: Drop>, H: Wait + Copy> Task<F, H> {
     pub fn detach(self) {
         let Task {
             job: _,
-            link,
+            share,
             source: _,
             asked: _,
             unseated: _,
             is_taken: _,
             rt,
         } = self;
-        drop(link.abandon(&rt));
+        drop(share.abandon(&rt));
     }
 
     /// Gives the call up, at once: a call that wasn't begun need not be made, and one that runs goes on. The future gives the
@@ -86,16 +86,16 @@ impl<F: Call<Out: Drop>, H: Wait + Copy> Task<F, H> {
     {
         let Task {
             job: _,
-            link,
+            share,
             source,
             asked: _,
             unseated: _,
             is_taken: _,
             rt,
         } = self;
-        link.mark();
-        let found = link.abandon(&rt);
-        Cancel::new(rt, link, source, found)
+        share.mark();
+        let found = share.abandon(&rt);
+        Cancel::new(rt, share, source, found)
     }
 }
 
@@ -103,7 +103,7 @@ impl<F: Call<Out: Drop>, H: Wait + Copy> Drop for Task<F, H> {
     fn drop(self) {
         let Task {
             job: _,
-            link,
+            share,
             source: _,
             asked: _,
             unseated: _,
@@ -111,8 +111,8 @@ impl<F: Call<Out: Drop>, H: Wait + Copy> Drop for Task<F, H> {
             rt,
         } = self;
         if !is_taken {
-            link.mark();
-            drop(link.abandon(&rt));
+            share.mark();
+            drop(share.abandon(&rt));
         }
     }
 }
@@ -142,7 +142,7 @@ impl<F: Call<Out: Drop>, H: Wait + Copy> Future for Task<F, H> {
     {
         // An answer that is there needs no waker. Else the waker of an earlier poll is used again, since one that is
         // dropped wakes its task.
-        let seat = match self.link.look(&self.rt) {
+        let seat = match self.share.look(&self.rt) {
             Looked::Value(out) => {
                 self.is_taken = true;
                 return Poll::Ready(out);
@@ -152,7 +152,7 @@ impl<F: Call<Out: Drop>, H: Wait + Copy> Future for Task<F, H> {
         let mut waker: Option<Waker> = seat.flatten().or(self.unseated.take());
         // meeting: Register
         let pending = cx.register(&self.source, &mut waker);
-        let (answer, spare) = self.link.poll(&self.rt, waker);
+        let (answer, spare) = self.share.poll(&self.rt, waker);
         match answer {
             Slotted::Value(out) => {
                 self.is_taken = true;
@@ -175,9 +175,9 @@ impl<F: Call<Out: Drop>, H: Wait + Copy> Future for Task<F, H> {
 /// job is over. Until that was taken it may be polled.
 #[derive(Drop)]
 pub struct Cancel<F: Call<Out: Drop>, H: Wait + Copy> {
-    link: Arc<Link<F>>,
+    share: Arc<CallShare<F>>,
     source: Source,
-    found: Found<AnswerOf<F>>,
+    found: KeptAnswer<AnswerOf<F>>,
     // What the slot answered to the last poll, where nothing was found: only a slot can.
     answer: Option<Slotted<F::Out>>,
     is_taken: bool,
@@ -190,13 +190,18 @@ impl<F: Call<Out: Drop>, H: Wait + Copy> Cancel<F, H> {
     ghost use Rattle.futures.specs.Poll.{IfReady, OnPending};
     ghost use Rattle.blocking_executor.specs.SlotAnswers.{settled};
 
-    fn new(rt: H, link: Arc<Link<F>>, source: Source, found: Found<AnswerOf<F>>) -> Cancel<F, H>
+    fn new(
+        rt: H,
+        share: Arc<CallShare<F>>,
+        source: Source,
+        found: KeptAnswer<AnswerOf<F>>,
+    ) -> Cancel<F, H>
         ensures fresh { result.is_taken ≡ false }
         ensures found { result.found ≡ found }
         ensures source_is { result.source ≡ source }
     {
         Cancel {
-            link,
+            share,
             source,
             found,
             answer: None,
@@ -277,19 +282,19 @@ impl<F: Call<Out: Drop>, H: Wait + Copy> Future for Cancel<F, H> {
             return self.give();
         }
         // (the waker of an earlier poll is used again, as by a task)
-        let mut waker: Option<Waker> = match self.link.look(&self.rt) {
+        let mut waker: Option<Waker> = match self.share.look(&self.rt) {
             Looked::Value(late) => return self.settle(Slotted::Value(late)),
             Looked::Seat(seat) => seat.flatten(),
         };
         // meeting: Register
         let _pending: Poll<Self::Output> = cx.register(&self.source, &mut waker);
-        let (answer, spare) = self.link.poll(&self.rt, waker);
+        let (answer, spare) = self.share.poll(&self.rt, waker);
         drop(spare);
         self.settle(answer)
     }
 }
 
-/// Runs a call on the executor's pool, for the client of this share. Its memory is had before it enters.
+/// Runs a call on the executor's pool, for the client of this share. Its memory is taken before it enters.
 ///
 /// A refused call is handed back, and nothing of it is left in the pool.
 pub fn unblock<F: Call<Out: Drop> + Drop, J: Job + Carries<CallJob<F, H>>, H: Runtime>(
@@ -315,20 +320,20 @@ pub fn unblock_for<F: Call<Out: Drop> + Drop, J: Job + Carries<CallJob<F, H>>, H
     ensures client { IfOk result (λ task. task.job.client ≡ client) }
 {
     let rt = executor.runtime();
-    let Ok(link) = Arc::new(rt.alloc(), Link::new()) else {
+    let Ok(share) = Arc::new(rt.alloc(), CallShare::new()) else {
         return Err(Refused {
             back: call,
             why: Refusal::Memory,
         });
     };
-    let Ok(theirs) = Arc::try_clone(&link) else {
+    let Ok(theirs) = Arc::try_clone(&share) else {
         return Err(Refused {
             back: call,
             why: Refusal::Memory,
         });
     };
     match executor.add_for(client, J::wrap(CallJob::new(rt, call, theirs))) {
-        Ok(job) => Ok(Task::new(rt, link, job)),
+        Ok(job) => Ok(Task::new(rt, share, job)),
         Err(refused) => Err(CallJob::refused_call(refused.unwrap())),
     }
 }

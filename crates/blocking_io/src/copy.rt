@@ -47,12 +47,12 @@ impl From<CopyFault> for io::Error {
     }
 }
 
-/// The future of a copy. It reads a piece, writes all of it, and then reads the next; at the end it flushes, and is ready with how many
+/// The future of a copy. It reads a piece, writes all of it, and then reads the next. At the end it flushes, and is ready with how many
 /// bytes were written once that is done. The count stays at the greatest number of 64 bits once it is there.
 ///
-/// It fails with [`CopyFault::Reading`] as soon as the reader fails, with what was written before not flushed, and with
-/// [`CopyFault::Writing`] where the writer fails; that is [`Fault::WriteZero`](blocking_core::io::Fault::WriteZero) where a write took
-/// nothing and the flush after it knows of no fault. After a fault a part of the last piece may be lost.
+/// It fails with [`CopyFault::Reading`] as soon as the reader fails, with what was written before not flushed. It fails with
+/// [`CopyFault::Writing`] where the writer fails. The fault is [`Fault::WriteZero`](blocking_core::io::Fault::WriteZero) where a write
+/// took nothing and the flush after it knows of no fault. After a fault a part of the last piece may be lost.
 ///
 /// Until it was ready it may be polled. The copier itself asks for no memory then; its reader and its writer may.
 #[derive(Drop)]

@@ -17,8 +17,8 @@ pub trait AsyncRead {
     /// Whether it was closed. What is closed isn't read.
     ghost closed: { Self → Type 0 };
 
-    /// A poll that led from the one state to the other may have been this one: how many bytes there was room for, and what it answered,
-    /// with the bytes. Where an impl doesn't say, it may be any.
+    /// A poll that led from the one state to the other may have been this one. It has how many bytes there was room for, and what it
+    /// answered, with the bytes. Where an impl doesn't say, it may be any.
     ghost reads: { Self → ReaderPoll → Self → Type 0 } = { λ _ _ _. Unit {0} };
 
     /// Reads the next bytes into `buf`, and answers how many they are. None, where the buffer has room for one, means the end. After a
@@ -45,8 +45,8 @@ pub trait AsyncWrite {
     ghost writes: { Self → WriterPoll → Self → Type 0 } = { λ _ _ _. Unit {0} };
 
     /// Takes the first bytes of `bytes` for writing, and answers how many they are. None, where there is one, means that an earlier write
-    /// failed: no more is taken until a call that asks for something else has met that fault; a flush and a close tell it. After a fault,
-    /// or a refusal where writing couldn't begin, nothing of `bytes` was taken.
+    /// failed. No more is taken until a call that asks for something else has met that fault; a flush and a close report it. After a
+    /// fault, or a refusal where writing couldn't begin, nothing of `bytes` was taken.
     ///
     /// A poll that waits has registered, and is polled again.
     fn poll_write(&mut self, cx: &mut Context<'_>, bytes: &[u8]) -> Poll<Result<usize, IoFault>>

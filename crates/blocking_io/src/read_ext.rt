@@ -27,7 +27,7 @@ pub trait AsyncReadExt: AsyncRead {
     }
 
     /// A future that fills `buf`. Where the end comes before, it answers an error of the kind `UnexpectedEof`, else it fails as
-    /// [`AsyncRead::poll_read`] does; what was read until then stands in the front of `buf`. Until it was ready it may be polled.
+    /// [`AsyncRead::poll_read`] does. What was read until then stands in the front of `buf`. Until it was ready it may be polled.
     final fn read_exact<'a>(&'a mut self, buf: &'a mut [u8]) -> ReadExact<'a, Self>
     where
         Self: Sized,
@@ -44,8 +44,8 @@ pub trait AsyncReadExt: AsyncRead {
     }
 
     /// A future that reads to the end, and adds what it reads to `out`. It answers how many bytes that were. After a fault `out` has what
-    /// was read until then; where there is no memory for more the fault is an error of the kind `OutOfMemory`, and no byte is lost.
-    /// Until it was ready it may be polled.
+    /// was read until then. Where there is no memory for more the fault is an error of the kind `OutOfMemory`, and no byte is lost. Until
+    /// it was ready it may be polled.
     final fn read_to_end<'a>(&'a mut self, out: &'a mut Vec<u8>) -> ReadToEnd<'a, Self>
     where
         Self: Sized,
@@ -164,7 +164,7 @@ const LEAST: usize = 4_096;
 
 const MOST: usize = 65_536;
 
-// Reads once, behind what is there. The memory is had before, so that no byte that was read is lost.
+// Reads once, behind what is there. The memory is taken before, so that no byte that was read is lost.
 fn append<A: AsyncRead>(
     reader: &mut A,
     cx: &mut Context<'_>,

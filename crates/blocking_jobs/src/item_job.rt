@@ -3,7 +3,7 @@ ghost use Rattle.std.specs.Prelude.{◌≡◌, None, Some};
 ghost use Rattle.blocking_core.specs.declared.job.item.ItemAction.TheVariants.{Next, Send, Close, Finish, Deliver};
 ghost use Rattle.blocking_core.specs.Items.{new_item, item_next};
 
-use crate::link::{Given, Link, MayFail};
+use crate::share::{Given, MayFail, SessionShare};
 use blocking_core::job::{ItemAction, ItemAnswer, ItemCore};
 use blocking_core::pool::{Carries, Job, JobNo, JobStep};
 use blocking_ends::{AnyPlace, ItemSendEnd, ItemSending};
@@ -11,7 +11,7 @@ use blocking_lock::OwnerWaker;
 use std::marker::Model;
 use std::sync::{Arc, Wait};
 
-/// The job that runs an iterator ahead of an owner: it asks the iterator for an item and sends it through the pipe, until the iterator
+/// The job that runs an iterator ahead of an owner. It asks the iterator for an item and sends it through the pipe, until the iterator
 /// ends or nobody wants more. Then it gives the iterator back. One item at most is out of the iterator and not in the pipe.
 ///
 /// One that is dropped before it is done drops the iterator and gives its slot up, with no lock held. That wakes an owner who waits there for
@@ -27,7 +27,7 @@ pub struct ItemJob<T: Iterator<Item = I> + Drop, I: Drop, H: Wait + Copy> {
     given: Option<Given<T>>,
     // The waker that was taken out of the owner's seat, and has to be called.
     waker: OwnerWaker,
-    link: Arc<Link<T, MayFail>>,
+    share: Arc<SessionShare<T, MayFail>>,
     rt: H,
 }
 
@@ -51,12 +51,12 @@ impl<T: Iterator<Item = I> + Drop, I: Drop, H: Wait + Copy> Model for ItemJob<T,
 impl<T: Iterator<Item = I> + Drop, I: Drop, H: Wait + Copy> ItemJob<T, I, H> {
     ghost use Rattle.blocking_jobs.specs.Iterators.{ItemSeen, IsSteppedBy};
 
-    /// The job of a session of items: `end` is the pipe into which they go. The iterator comes back over the link.
+    /// The job of a session of items: `end` is the pipe into which they go. The iterator comes back by the share.
     pub fn new(
         rt: H,
         iterator: T,
         end: ItemSendEnd<I, AnyPlace, H>,
-        link: Arc<Link<T, MayFail>>,
+        share: Arc<SessionShare<T, MayFail>>,
     ) -> ItemJob<T, I, H>
         requires { (state : T) → T.can_next state }
         ensures { result ≡ record { core = new_item; iterator = Some iterator; hand = None; sent = end.sent } }
@@ -68,7 +68,7 @@ impl<T: Iterator<Item = I> + Drop, I: Drop, H: Wait + Copy> ItemJob<T, I, H> {
             end,
             given: None,
             waker: None,
-            link,
+            share,
             rt,
         }
     }
@@ -84,7 +84,7 @@ impl<T: Iterator<Item = I> + Drop, I: Drop, H: Wait + Copy> ItemJob<T, I, H> {
             end: _,
             given: _,
             waker: _,
-            link: _,
+            share: _,
             rt: _,
         } = self;
         iterator
@@ -152,7 +152,7 @@ impl<T: Iterator<Item = I> + Drop, I: Drop, H: Wait + Copy> ItemJob<T, I, H> {
         let Some(handle) = self.iterator.take() else {
             unreachable!()
         };
-        let (wake, given) = self.link.give_back(&self.rt, handle, None);
+        let (wake, given) = self.share.give_back(&self.rt, handle, None);
         self.given = Some(given);
         let woke = wake.is_some();
         self.waker = wake.flatten();
@@ -186,7 +186,7 @@ impl<T: Iterator<Item = I> + Drop, I: Drop, H: Wait + Copy> Drop for ItemJob<T, 
             end: _,
             given: _,
             waker,
-            link,
+            share,
             rt,
         } = self;
         // The iterator is gone before the owner is told. (a waker that is dropped wakes)
@@ -197,7 +197,7 @@ impl<T: Iterator<Item = I> + Drop, I: Drop, H: Wait + Copy> Drop for ItemJob<T, 
         if let ItemAction::Done = core.next() {
             return;
         }
-        if let Some(Some(waker)) = link.give_up(&rt) {
+        if let Some(Some(waker)) = share.give_up(&rt) {
             // meeting: Call
             waker.wake();
         }
@@ -244,6 +244,6 @@ impl<T: Iterator<Item = I> + Drop, I: Drop, H: Wait + Copy> Job for ItemJob<T, I
     }
 
     fn abandoned(&self) -> bool {
-        self.link.is_marked()
+        self.share.is_marked()
     }
 }

@@ -3,15 +3,15 @@
 
 mod flush;
 mod item_job;
-mod link;
 mod op_job;
 mod read_job;
 mod seek_job;
+mod share;
 mod write_job;
 
 pub use item_job::ItemJob;
-pub use link::{Link, Linked, MayFail, Returned, SessionStore, Sought, WayBack};
 pub use op_job::{OpJob, ResultPlace, ResultSeat};
 pub use read_job::{ReadBack, ReadJob};
 pub use seek_job::SeekJob;
+pub use share::{MayFail, Returned, SessionShare, SessionStore, Sought, WayBack, new_share};
 pub use write_job::{WriteBack, WriteJob};

@@ -4,7 +4,7 @@ ghost use Rattle.futures.specs.Task.{IsArmed, Keeps};
 ghost use Rattle.blocking_core.specs.declared.job.operation.OpAction.TheVariants.{Call, PutResult, Finish, Deliver};
 ghost use Rattle.blocking_core.specs.Operations.{new_operation, operation_next};
 
-use crate::link::{Given, Link, MayFail, put_result};
+use crate::share::{Given, MayFail, SessionShare, put_result};
 use blocking_core::job::{OpAction, OpAnswer, OpCore};
 use blocking_core::pool::{Carries, Job, JobNo, JobStep};
 use blocking_core::task::{CallOn, OfSlot, Seat};
@@ -88,7 +88,7 @@ pub struct OpJob<F: CallOn<T, Out: Drop> + Drop, T: Drop, H: Wait + Copy> {
     // The waker that was taken out of an owner's seat, and has to be called.
     waker: OwnerWaker,
     place: Arc<LockedSlot<ResultOf<F, T>>>,
-    link: Arc<Link<T, MayFail>>,
+    share: Arc<SessionShare<T, MayFail>>,
     rt: H,
 }
 
@@ -110,13 +110,13 @@ impl<F: CallOn<T, Out: Drop> + Drop, T: Drop, H: Wait + Copy> Model for OpJob<F,
 impl<F: CallOn<T, Out: Drop> + Drop, T: Drop, H: Wait + Copy> OpJob<F, T, H> {
     ghost use Rattle.blocking_jobs.specs.Operators.{OpSeen, IsSteppedBy};
 
-    /// The job that makes this operation on this handle. Its result goes to `place`, and the handle comes back over the link.
+    /// The job that makes this operation on this handle. Its result goes to `place`, and the handle comes back by the share.
     pub fn new(
         rt: H,
         operation: F,
         handle: T,
         place: Arc<LockedSlot<ResultOf<F, T>>>,
-        link: Arc<Link<T, MayFail>>,
+        share: Arc<SessionShare<T, MayFail>>,
     ) -> OpJob<F, T, H>
         ensures { result ≡ record { core = new_operation; operation = Some operation; handle = Some handle; gave = None } }
     {
@@ -129,7 +129,7 @@ impl<F: CallOn<T, Out: Drop> + Drop, T: Drop, H: Wait + Copy> OpJob<F, T, H> {
             given: None,
             waker: None,
             place,
-            link,
+            share,
             rt,
         }
     }
@@ -147,7 +147,7 @@ impl<F: CallOn<T, Out: Drop> + Drop, T: Drop, H: Wait + Copy> OpJob<F, T, H> {
             given: _,
             waker: _,
             place: _,
-            link: _,
+            share: _,
             rt: _,
         } = self;
         (operation, handle)
@@ -190,7 +190,7 @@ impl<F: CallOn<T, Out: Drop> + Drop, T: Drop, H: Wait + Copy> OpJob<F, T, H> {
         let Some(handle) = self.handle.take() else {
             unreachable!()
         };
-        let (wake, given) = self.link.give_back(&self.rt, handle, None);
+        let (wake, given) = self.share.give_back(&self.rt, handle, None);
         self.given = Some(given);
         let woke = wake.is_some();
         self.waker = wake.flatten();
@@ -225,7 +225,7 @@ impl<F: CallOn<T, Out: Drop> + Drop, T: Drop, H: Wait + Copy> Drop for OpJob<F, 
             given: _,
             waker,
             place,
-            link,
+            share,
             rt,
         } = self;
         // All that it has is gone before the owner is told. (a waker that is dropped wakes)
@@ -238,7 +238,7 @@ impl<F: CallOn<T, Out: Drop> + Drop, T: Drop, H: Wait + Copy> Drop for OpJob<F, 
         if let OpAction::Done = core.next() {
             return;
         }
-        if let Some(Some(waker)) = link.give_up(&rt) {
+        if let Some(Some(waker)) = share.give_up(&rt) {
             // meeting: Call
             waker.wake();
         }
@@ -284,6 +284,6 @@ impl<F: CallOn<T, Out: Drop> + Drop, T: Drop, H: Wait + Copy> Job for OpJob<F, T
     }
 
     fn abandoned(&self) -> bool {
-        self.link.is_marked()
+        self.share.is_marked()
     }
 }

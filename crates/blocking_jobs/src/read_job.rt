@@ -4,7 +4,7 @@ ghost use Rattle.std.specs.Io.KnownBytes.{ReadConsumes};
 ghost use Rattle.blocking_core.specs.declared.job.read.ReadAction.TheVariants.{FindRoom, Read as ReadPiece, Put as PutPiece, Close, Finish, Deliver};
 ghost use Rattle.blocking_core.specs.Reading.{new_read, read_next};
 
-use crate::link::{Given, Link, MayFail, SessionStore};
+use crate::share::{Given, MayFail, SessionShare, SessionStore};
 use blocking_core::io::JobFault;
 use blocking_core::job::{ReadAction, ReadAnswer, ReadCore};
 use blocking_core::pipe::{Put, Room};
@@ -49,8 +49,9 @@ impl<T: Drop, H: Wait + Copy> Model for Reading<T, H> {
     ghost invariant = { λ w. 0 < vec_len w.piece };
 }
 
-/// The job that reads ahead of an owner: it asks its reader for as much as there is room for in the pipe, and puts there what it
-/// was given, until the reader ends or fails or nobody wants more. Then it gives the reader back, with all that it worked with.
+/// The job that reads ahead of an owner. It asks its reader for as much as there is room for in the pipe, and puts there what it
+/// was given. It does so until the reader ends or fails or nobody wants more. Then it gives the reader back, with all that it
+/// worked with.
 ///
 /// One that is dropped before it is done drops the reader and gives its slot up, with no lock held. That wakes an owner who waits there for
 /// the reader, and none who waits at the pipe. A pool drops a job only once its owner is gone.
@@ -64,7 +65,7 @@ pub struct ReadJob<T: Drop, H: Wait + Copy> {
     given: Option<Given<T>>,
     // The waker that was taken out of the owner's seat, and has to be called.
     waker: OwnerWaker,
-    link: Arc<Link<T, ReadBack<H>>>,
+    share: Arc<SessionShare<T, ReadBack<H>>>,
     rt: H,
 }
 
@@ -96,13 +97,13 @@ impl<T: Drop, H: Wait + Copy> ReadJob<T, H> {
     ghost use Rattle.blocking_jobs.specs.Readers.{ReadSeen};
 
     /// The job of a session that reads: `piece` is what it reads into, and `end` the pipe into which that goes. The reader comes back over
-    /// the link.
+    /// the share.
     pub fn new(
         rt: H,
         reader: T,
         piece: Vec<u8>,
         end: SendEnd<u8, AnyPlace, SessionStore, H>,
-        link: Arc<Link<T, ReadBack<H>>>,
+        share: Arc<SessionShare<T, ReadBack<H>>>,
     ) -> ReadJob<T, H>
         requires { 0 < vec_len piece }
         ensures { result ≡ record {
@@ -118,7 +119,7 @@ impl<T: Drop, H: Wait + Copy> ReadJob<T, H> {
             closed: None,
             given: None,
             waker: None,
-            link,
+            share,
             rt,
         }
     }
@@ -134,7 +135,7 @@ impl<T: Drop, H: Wait + Copy> ReadJob<T, H> {
             closed: _,
             given: _,
             waker: _,
-            link: _,
+            share: _,
             rt: _,
         } = self;
         match work {
@@ -239,7 +240,7 @@ impl<T: Read + Drop, H: Wait + Copy> ReadJob<T, H> {
             end,
             piece,
         };
-        let (wake, given) = self.link.give_back(&self.rt, reader, told);
+        let (wake, given) = self.share.give_back(&self.rt, reader, told);
         self.given = Some(given);
         let woke = wake.is_some();
         self.waker = wake.flatten();
@@ -272,7 +273,7 @@ impl<T: Drop, H: Wait + Copy> Drop for ReadJob<T, H> {
             closed: _,
             given: _,
             waker,
-            link,
+            share,
             rt,
         } = self;
         // The reader is gone before the owner is told. (a waker that is dropped wakes)
@@ -282,7 +283,7 @@ impl<T: Drop, H: Wait + Copy> Drop for ReadJob<T, H> {
         if let ReadAction::Done = core.next() {
             return;
         }
-        if let Some(Some(waker)) = link.give_up(&rt) {
+        if let Some(Some(waker)) = share.give_up(&rt) {
             // meeting: Call
             waker.wake();
         }
@@ -329,6 +330,6 @@ impl<T: Read + Drop, H: Wait + Copy> Job for ReadJob<T, H> {
     }
 
     fn abandoned(&self) -> bool {
-        self.link.is_marked()
+        self.share.is_marked()
     }
 }

@@ -4,7 +4,7 @@ ghost use Rattle.blocking_core.specs.declared.job.seek.SeekAction.TheVariants.{S
 ghost use Rattle.blocking_core.specs.Seeks.{new_seek, seek_next};
 ghost use Rattle.blocking_jobs.specs.Seekers.{seek_from};
 
-use crate::link::{Given, Link, Sought};
+use crate::share::{Given, SessionShare, Sought};
 use blocking_core::io::Position;
 use blocking_core::job::{SeekAction, SeekAnswer, SeekCore};
 use blocking_core::pool::{Carries, Job, JobNo, JobStep};
@@ -28,7 +28,7 @@ pub struct SeekJob<T: Drop, H: Wait + Copy> {
     given: Option<Given<T>>,
     // The waker that was taken out of the owner's seat, and has to be called.
     waker: OwnerWaker,
-    link: Arc<Link<T, Sought>>,
+    share: Arc<SessionShare<T, Sought>>,
     rt: H,
 }
 
@@ -59,8 +59,8 @@ fn seek_from(position: Position) -> SeekFrom
 impl<T: Drop, H: Wait + Copy> SeekJob<T, H> {
     ghost use Rattle.blocking_jobs.specs.Seekers.{SeekSeen};
 
-    /// The job that seeks `to` a position. The handle comes back over the link, and with it where it is then.
-    pub fn new(rt: H, handle: T, to: Position, link: Arc<Link<T, Sought>>) -> SeekJob<T, H>
+    /// The job that seeks `to` a position. The handle comes back by the share, and with it where it is then.
+    pub fn new(rt: H, handle: T, to: Position, share: Arc<SessionShare<T, Sought>>) -> SeekJob<T, H>
         ensures { result ≡ record { core = new_seek; handle = Some handle; to = to; sought = None } }
     {
         SeekJob {
@@ -70,7 +70,7 @@ impl<T: Drop, H: Wait + Copy> SeekJob<T, H> {
             sought: None,
             given: None,
             waker: None,
-            link,
+            share,
             rt,
         }
     }
@@ -86,7 +86,7 @@ impl<T: Drop, H: Wait + Copy> SeekJob<T, H> {
             sought: _,
             given: _,
             waker: _,
-            link: _,
+            share: _,
             rt: _,
         } = self;
         handle
@@ -122,7 +122,7 @@ impl<T: Seek + Drop, H: Wait + Copy> SeekJob<T, H> {
         let Some(sought) = self.sought.take() else {
             unreachable!()
         };
-        let (wake, given) = self.link.give_back(&self.rt, handle, sought);
+        let (wake, given) = self.share.give_back(&self.rt, handle, sought);
         self.given = Some(given);
         let woke = wake.is_some();
         self.waker = wake.flatten();
@@ -155,7 +155,7 @@ impl<T: Drop, H: Wait + Copy> Drop for SeekJob<T, H> {
             sought: _,
             given: _,
             waker,
-            link,
+            share,
             rt,
         } = self;
         // The handle is gone before the owner is told. (a waker that is dropped wakes)
@@ -165,7 +165,7 @@ impl<T: Drop, H: Wait + Copy> Drop for SeekJob<T, H> {
         if let SeekAction::Done = core.next() {
             return;
         }
-        if let Some(Some(waker)) = link.give_up(&rt) {
+        if let Some(Some(waker)) = share.give_up(&rt) {
             // meeting: Call
             waker.wake();
         }
@@ -209,6 +209,6 @@ impl<T: Seek + Drop, H: Wait + Copy> Job for SeekJob<T, H> {
     }
 
     fn abandoned(&self) -> bool {
-        self.link.is_marked()
+        self.share.is_marked()
     }
 }

@@ -6,7 +6,7 @@ ghost use Rattle.blocking_core.specs.declared.job.write.WriteAction.TheVariants.
 ghost use Rattle.blocking_core.specs.Writing.{new_write, write_next};
 
 use crate::flush::{Flushed, flush};
-use crate::link::{Given, Link, MayFail, SessionStore};
+use crate::share::{Given, MayFail, SessionShare, SessionStore};
 use blocking_core::job::{PIECE, WriteAction, WriteAnswer, WriteCore};
 use blocking_core::pipe::Peeked;
 use blocking_core::pool::{Carries, Job, JobNo, JobStep};
@@ -43,9 +43,9 @@ impl<T: Drop, H: Wait + Copy> Model for Writing<T, H> {
     ghost view = { λ w. record { writer = w.writer; piece = w.end.shown; received = w.end.received } };
 }
 
-/// The job that writes behind an owner: it offers its writer what stands at the front of the pipe, and lets go of what the writer took,
-/// until the owner wants no more and all is written, or the writer fails. Then it flushes the writer and gives it back, with all that it worked
-/// with.
+/// The job that writes behind an owner. It offers its writer what stands at the front of the pipe, and lets go of what the writer took. It
+/// does so until the owner wants no more and all is written, or the writer fails. Then it flushes the writer and gives it back, with all
+/// that it worked with.
 ///
 /// One that is dropped before it is done drops the writer and gives its slot up, with no lock held. That wakes an owner who waits there for
 /// the writer, and none who waits at the pipe. A pool drops a job only once its owner is gone. What wasn't written then is lost.
@@ -59,7 +59,7 @@ pub struct WriteJob<T: Drop, H: Wait + Copy> {
     given: Option<Given<T>>,
     // The waker that was taken out of the owner's seat, and has to be called.
     waker: OwnerWaker,
-    link: Arc<Link<T, WriteBack<H>>>,
+    share: Arc<SessionShare<T, WriteBack<H>>>,
     rt: H,
 }
 
@@ -92,12 +92,12 @@ impl<T: Drop, H: Wait + Copy> WriteJob<T, H> {
     ghost use Rattle.std.specs.Prelude.{option_map};
     ghost use Rattle.blocking_jobs.specs.Writers.{WriteSeen};
 
-    /// The job of a session that writes: `end` shows it the pipe that it writes out. The writer comes back over the link.
+    /// The job of a session that writes: `end` shows it the pipe that it writes out. The writer comes back by the share.
     pub fn new(
         rt: H,
         writer: T,
         end: PeekEnd<u8, AnyPlace, SessionStore, H>,
-        link: Arc<Link<T, WriteBack<H>>>,
+        share: Arc<SessionShare<T, WriteBack<H>>>,
     ) -> WriteJob<T, H>
         ensures { result ≡ record {
           core = new_write;
@@ -111,7 +111,7 @@ impl<T: Drop, H: Wait + Copy> WriteJob<T, H> {
             closed: None,
             given: None,
             waker: None,
-            link,
+            share,
             rt,
         }
     }
@@ -127,7 +127,7 @@ impl<T: Drop, H: Wait + Copy> WriteJob<T, H> {
             closed: _,
             given: _,
             waker: _,
-            link: _,
+            share: _,
             rt: _,
         } = self;
         match work {
@@ -231,7 +231,7 @@ impl<T: Write + Drop, H: Wait + Copy> WriteJob<T, H> {
         };
         let fault = self.core.fault();
         let told = WriteBack { fault, end };
-        let (wake, given) = self.link.give_back(&self.rt, writer, told);
+        let (wake, given) = self.share.give_back(&self.rt, writer, told);
         self.given = Some(given);
         let woke = wake.is_some();
         self.waker = wake.flatten();
@@ -264,7 +264,7 @@ impl<T: Drop, H: Wait + Copy> Drop for WriteJob<T, H> {
             closed: _,
             given: _,
             waker,
-            link,
+            share,
             rt,
         } = self;
         // The writer is gone before the owner is told. (a waker that is dropped wakes)
@@ -274,7 +274,7 @@ impl<T: Drop, H: Wait + Copy> Drop for WriteJob<T, H> {
         if let WriteAction::Done = core.next() {
             return;
         }
-        if let Some(Some(waker)) = link.give_up(&rt) {
+        if let Some(Some(waker)) = share.give_up(&rt) {
             // meeting: Call
             waker.wake();
         }
@@ -322,6 +322,6 @@ impl<T: Write + Drop, H: Wait + Copy> Job for WriteJob<T, H> {
     }
 
     fn abandoned(&self) -> bool {
-        self.link.is_marked()
+        self.share.is_marked()
     }
 }

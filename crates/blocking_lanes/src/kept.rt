@@ -1,4 +1,4 @@
-//! What every lane keeps, beside what its calls do. Bodies are empty.
+//! What every lane keeps, apart from what its calls do. Bodies are empty.
 ghost use Rattle.std.specs.Prelude.{◌≡◌, ◌⊎◌, ◌||◌, ◌++◌, ◌∷◌, ℕ, true, List, [], length, None};
 ghost use Rattle.blocking_pool.specs.Jobs.{JobNumber};
 ghost use Rattle.blocking_laws.specs.JobTable.{has_finished, has_given_up};
@@ -18,8 +18,8 @@ ghost use Rattle.blocking_lanes.specs.Steps as of_tasks;
 ghost use Rattle.blocking_lanes.specs.Tasks.{Task, new_task};
 ghost use Rattle.blocking_lanes.specs.Ties.{TasksHold};
 
-/// Whatever tasks and the jobs of their calls do, each keeps its laws, and hangs together with its cut: after a step of one of them, after
-/// the making of one, and after an event of none, be it of no job, or of an owner's.
+/// Whatever tasks and the jobs of their calls do, each keeps its laws, and hangs together with its cut. That is so after a step of one of
+/// them, after the making of one, and after an event of none: one of no job, or of an owner's.
 pub fn tasks()
     ensures aside { (row : List Task) (past : List Moment) (now : Moment) →
         of_tasks.IsAside now.event → TasksHold row past → TasksHold row (now ∷ past) }

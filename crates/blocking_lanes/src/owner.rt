@@ -1,5 +1,5 @@
-//! The machine of an owner who lends its handle to jobs that read ahead of it, write behind it, give its items, move it or operate on it,
-//! until it takes the handle back.
+//! The machine of an owner who lends its handle to jobs until it takes the handle back. They read ahead of it, write behind it, give its
+//! items, move it or operate on it.
 ghost use Rattle.std.specs.Prelude.{◌≡◌, ◌<◌, ◌==◌, if◌then◌else◌, Some, None};
 ghost use Rattle.blocking_core.specs.declared.unblock.OwnerAction.TheVariants as action;
 ghost use Rattle.blocking_lanes.specs.Sessions.{serial_of};
@@ -83,8 +83,8 @@ pub enum OwnerNext {
     Acts(usize),
 }
 
-/// An owner: how many bytes or items the pipes of its sessions hold, the client whose its jobs are, the call that it was asked last, where it
-/// is in its polls, and its last session. The wakers in its seats are told as units.
+/// An owner. It has how many bytes or items the pipes of its sessions hold, and the client whose its jobs are. It has the call that it was
+/// asked last, where it is in its polls, and its last session. The wakers in its seats are units.
 ///
 /// It may hold the note of a job that has to be woken, so it can't be let go: [`Owner::into_note`] takes it apart.
 pub struct Owner {
@@ -248,9 +248,9 @@ impl Owner {
         matches!(self.stage, OwnerStage::Rests(_, _))
     }
 
-    /// Whether it may be asked for this: it is there, no poll of it is under way, once its handle is gone it is
-    /// only flushed and closed, once its handle was asked for for good it is only asked for that, and for the result of an operation it is asked
-    /// only where one is pending.
+    /// Whether it may be asked for this: it is there, and no poll of it is under way. Once its handle is gone it is only flushed and
+    /// closed. Once its handle was asked for for good it is only asked for that. For the result of an operation it is asked only where one
+    /// is pending.
     pub fn may_ask(&self, call: &HandleCall) -> bool
         ensures { result ≡ may_ask self.now call.now }
     {
@@ -362,12 +362,12 @@ impl Owner {
         if let OwnerStage::Rests(state, end) = &self.stage {
             let poll = OwnerCall::new(poll_call(&call, end.is_for_result()), *state);
             self.asked = Some(call);
-            self.turn(OwnerStage::Polls(poll));
+            self.set_stage(OwnerStage::Polls(poll));
         }
     }
 
-    // It is here in its polls from now on.
-    fn turn(&mut self, stage: OwnerStage)
+    // It is at this stage of its polls from now on.
+    fn set_stage(&mut self, stage: OwnerStage)
         requires { note_at self.old.stage ≡ None }
         ensures { self.new ≡ record self.old { stage = stage } }
     {
@@ -385,7 +385,7 @@ impl Owner {
         requires { note_at self.old.stage ≡ None }
         ensures { self.new ≡ record self.old { stage = goes_on poll note } }
     {
-        self.turn(match note {
+        self.set_stage(match note {
             Some(note) => OwnerStage::Wakes(poll, note),
             None => OwnerStage::Polls(poll),
         });
@@ -424,7 +424,7 @@ impl Owner {
     {
         let told = told?;
         let stage = self.after_reply(poll.state());
-        self.turn(stage);
+        self.set_stage(stage);
         Some(Act::Replied(told))
     }
 
@@ -486,11 +486,11 @@ impl Owner {
             }
             Found::End => {
                 poll.answer(OwnerAnswer::Ended);
-                self.turn(OwnerStage::Polls(poll));
+                self.set_stage(OwnerStage::Polls(poll));
                 Some(Act::GotEnd)
             }
             Found::Nothing => {
-                self.turn(OwnerStage::Rests(poll.state(), PollEnd::Waits));
+                self.set_stage(OwnerStage::Rests(poll.state(), PollEnd::Waits));
                 Some(Act::Waits)
             }
         }
@@ -519,11 +519,11 @@ impl Owner {
             }
             Obtained::End => {
                 poll.answer(OwnerAnswer::Ended);
-                self.turn(OwnerStage::Polls(poll));
+                self.set_stage(OwnerStage::Polls(poll));
                 Some(Act::GotEnd)
             }
             Obtained::Nothing => {
-                self.turn(OwnerStage::Rests(poll.state(), PollEnd::Waits));
+                self.set_stage(OwnerStage::Rests(poll.state(), PollEnd::Waits));
                 Some(Act::Waits)
             }
         }
@@ -556,11 +556,11 @@ impl Owner {
             }
             Entered::Shut => {
                 poll.answer(OwnerAnswer::Shut);
-                self.turn(OwnerStage::Polls(poll));
+                self.set_stage(OwnerStage::Polls(poll));
                 Some(Act::FillShut)
             }
             Entered::Nothing => {
-                self.turn(OwnerStage::Rests(poll.state(), PollEnd::Waits));
+                self.set_stage(OwnerStage::Rests(poll.state(), PollEnd::Waits));
                 Some(Act::Waits)
             }
         }
@@ -573,7 +573,7 @@ impl Owner {
     {
         let mut poll = poll;
         poll.answer(OwnerAnswer::Dropped);
-        self.turn(OwnerStage::Rests(poll.state(), PollEnd::Replied));
+        self.set_stage(OwnerStage::Rests(poll.state(), PollEnd::Replied));
         Some(Act::Replied(Told::Okay))
     }
 
@@ -589,11 +589,11 @@ impl Owner {
             Looked::Handle(fault) => {
                 let mut poll = poll;
                 poll.answer(back(poll.state(), fault, session.left()));
-                self.turn(OwnerStage::Polls(poll));
+                self.set_stage(OwnerStage::Polls(poll));
                 Some(Act::Back)
             }
             Looked::Nothing => {
-                self.turn(OwnerStage::Rests(poll.state(), PollEnd::Waits));
+                self.set_stage(OwnerStage::Rests(poll.state(), PollEnd::Waits));
                 Some(Act::Waits)
             }
             Looked::Gone => None,
@@ -612,11 +612,11 @@ impl Owner {
             Awaited::Result(number) => {
                 let mut poll = poll;
                 poll.answer(OwnerAnswer::Resulted);
-                self.turn(OwnerStage::Polls(poll));
+                self.set_stage(OwnerStage::Polls(poll));
                 Some(Act::ResultGot(number))
             }
             Awaited::Nothing => {
-                self.turn(OwnerStage::Rests(poll.state(), PollEnd::WaitsForResult));
+                self.set_stage(OwnerStage::Rests(poll.state(), PollEnd::WaitsForResult));
                 Some(Act::Waits)
             }
             Awaited::Gone => None,
@@ -676,20 +676,20 @@ impl Owner {
             OwnerStage::Wakes(poll, note) => {
                 let mut poll = poll;
                 poll.answer(OwnerAnswer::Delivered);
-                self.turn(OwnerStage::Polls(poll));
+                self.set_stage(OwnerStage::Polls(poll));
                 Some(note)
             }
             OwnerStage::Rests(state, end) => {
-                self.turn(OwnerStage::Rests(state, end));
+                self.set_stage(OwnerStage::Rests(state, end));
                 None
             }
             OwnerStage::Polls(poll) => {
-                self.turn(OwnerStage::Polls(poll));
+                self.set_stage(OwnerStage::Polls(poll));
                 None
             }
             OwnerStage::Dropped => None,
             OwnerStage::TakenBack => {
-                self.turn(OwnerStage::TakenBack);
+                self.set_stage(OwnerStage::TakenBack);
                 None
             }
         }
@@ -700,7 +700,7 @@ impl Owner {
         ensures { self.new ≡ owner_after_drop self.old }
     {
         if let OwnerStage::Rests(_, _) = &self.stage {
-            self.turn(OwnerStage::Dropped);
+            self.set_stage(OwnerStage::Dropped);
         }
     }
 

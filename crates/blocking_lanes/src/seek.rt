@@ -6,8 +6,8 @@ use blocking_core::job::{SeekAction, SeekAnswer, SeekCore};
 use blocking_laws::step::Answer;
 use std::marker::Model;
 
-/// How far the job of a seek is: what it does next, where its handle is to go, where it was found to be, once it was, and the job's fault,
-/// once it met one.
+/// How far the job of a seek is: what it does next, and where its handle is to go. Also where it was found to be, once it was, and the
+/// job's fault, once it met one.
 #[derive(Drop)]
 pub struct SeekProgress {
     core: SeekCore,

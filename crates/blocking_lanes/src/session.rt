@@ -20,8 +20,8 @@ use blocking_laws::event::{Act, HolderWaker};
 use std::alloc::{AllocError, Global};
 use std::marker::Model;
 
-/// A session of an owner: the number of its job, the pipe between the two, the place in which the result of its operation comes, the slot
-/// in which the handle comes back, and where a seek left the handle.
+/// A session of an owner. It has the number of its job, the pipe between the two, and where a seek left the handle. It has the place in
+/// which the result of its operation comes, and the slot in which the handle comes back.
 #[derive(Drop)]
 pub(crate) struct Session {
     number: JobNo,
@@ -419,7 +419,7 @@ impl Session {
         self.passage.len().min(PIECE)
     }
 
-    // The job looks at the front of the pipe. The memory for what it finds there is had before it does.
+    // The job looks at the front of the pipe. The memory for what it finds there is taken before it does.
     fn find_piece(&mut self, alloc: Global, job: &mut WriteProgress) -> Result<Act, AllocError>
         requires { self.old.goods ≡ OfBytes }
         ensures ok { IfOk result (λ act. work_at_peek (found_piece self.old) job.old self.old

@@ -8,8 +8,8 @@ use blocking_laws::step::Answer;
 use std::alloc::Global;
 use std::marker::Model;
 
-/// How far the job of a writer is: what it does next, its fault, once it met one, and the bytes that it found last at the front of the
-/// pipe.
+/// How far the job of a writer is: what it does next, and its fault, once it met one. Also the bytes that it found last at the front
+/// of the pipe.
 #[derive(Drop)]
 pub struct WriteProgress {
     core: WriteCore<u64>,
@@ -47,8 +47,8 @@ impl WriteProgress {
         self.core.next()
     }
 
-    /// Whether this is an answer to what the job asks for: how much of a piece its writer took, no more than it was offered, or that it
-    /// was flushed, or a failure of either.
+    /// Whether this is an answer to what the job asks for. It says how much of a piece its writer took, no more than it was offered, or
+    /// that it was flushed, or a failure of either.
     pub fn may_be_answered(&self, answer: &Answer) -> bool
         ensures { result ≡ is_answer (action_of self.now) answer.now }
     {

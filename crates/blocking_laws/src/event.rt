@@ -109,8 +109,8 @@ pub enum Act {
     GotItem(u64, Option<u64>),
     /// The pipe was found empty, with the job's end closed.
     GotEnd,
-    /// So many of the first bytes that it was asked to write went into the pipe, one at least; and the note of this job out of its seat,
-    /// if one was seated.
+    /// So many of the first bytes that it was asked to write went into the pipe, one at least. Also the note of this job out of its
+    /// seat, if one was seated.
     Filled(usize, Option<u64>),
     /// None went in, as the job's end of the pipe is closed.
     FillShut,

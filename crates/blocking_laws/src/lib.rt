@@ -1,5 +1,5 @@
-//! What is seen when owners, tasks and workers take steps over one pool, one step at a time: the steps, their events, and
-//! the laws that a trace of them keeps.
+//! What is seen when owners, tasks and workers take steps over one pool, one step at a time. There are the steps, their
+//! events, and the laws that a trace of them keeps.
 //!
 //! The laws are definitions over what was seen, in `specs`. docs/LAWS.md reads them aloud. `blocking_theorems` has, for each law,
 //! short traces that it accepts and short traces that it refuses, as theorems; [`laws`] has those that machines cite.

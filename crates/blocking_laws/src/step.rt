@@ -7,9 +7,9 @@ use std::alloc::AllocError;
 
 /// One step. It may name anyone and ask for anything: a step that has no action then changes nothing.
 ///
-/// Owners are numbered from 0 in the order in which they were made, tasks from 0 in the order in which their calls were
-/// accepted, workers from 1 in the order in which they arrived, copiers from 0 in the order in which they were made, and jobs by their
-/// serials, from 1. Clients go by numbers of their own; 0 is the client of who names none.
+/// Owners and copiers are numbered from 0 in the order in which they were made, tasks from 0 in the order in which their calls were
+/// accepted. Workers are numbered from 1 in the order in which they arrived, and jobs by their serials, from 1. Clients go by numbers
+/// of their own; 0 is the client of who names none.
 #[derive(Debug, Drop)]
 pub enum Step {
     /// An owner is made, with an idle handle. Its sessions' pipes hold so many bytes or items; 0 stands for the defaults. Its jobs are those

@@ -23,7 +23,7 @@ pub fn enter<'a, T, H: Wait>(lock: &'a Mutex<T>, rt: &H) -> MutexGuard<'a, T> {
 }
 
 /// Takes the lock where what it holds agrees with what its caller knows of it; else lets go and tries again. A lock says nothing of what it
-/// held before, so who shares it with one other side alone asks by a count of its own, which for the pair that was made always agrees.
+/// held before. So who shares it with one other side alone asks by a count of its own, which for the pair that was made always agrees.
 pub fn enter_where<'a, T, H: Wait, F: Fn(&T) -> bool>(
     lock: &'a Mutex<T>,
     rt: &H,

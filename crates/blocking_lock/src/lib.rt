@@ -5,4 +5,4 @@ mod entry;
 mod slot;
 
 pub use entry::{enter, enter_where};
-pub use slot::{AnyOf, Found, Left, LockedSlot, OwnerWaker};
+pub use slot::{AnyOf, KeptAnswer, Left, LockedSlot, OwnerWaker};

@@ -8,8 +8,9 @@ use futures::task::{Context, Poll, Source, Waker};
 use std::marker::{Model, PhantomData};
 use std::sync::{Mutex, Wait};
 
-/// The owner's waker, or none where none could be registered. It may be let go where a section answered it, called or not: a waker of the kit
-/// wakes its task when it is dropped (its `wake` is its drop), as slots and pipes ask of theirs. At worst an owner is woken once too often.
+/// The owner's waker, or none where none could be registered. It may be let go where a section answered it, called or not. A waker of the
+/// kit wakes its task when it is dropped (its `wake` is its drop), as slots and pipes ask of theirs. At worst an owner is woken once too
+/// often.
 pub type OwnerWaker = Option<Waker>;
 
 /// What may stand in a slot: a type, and a rule of its values for contracts alone.
@@ -95,11 +96,11 @@ impl<A: Left<Value: Drop>> RuledSlot<A> {
         (polled.answer, polled.spare)
     }
 
-    fn abandon(&mut self) -> Found<A>
+    fn abandon(&mut self) -> KeptAnswer<A>
         ensures slot { self.new ≡ after_abandon self.old }
         ensures found { result ≡ value_in self.old }
     {
-        Found {
+        KeptAnswer {
             value: self.slot.abandon(),
         }
     }
@@ -107,11 +108,11 @@ impl<A: Left<Value: Drop>> RuledSlot<A> {
 
 /// What an owner found in its slot when it left: a value that is as the rule says, or none.
 #[derive(Drop)]
-pub struct Found<A: Left<Value: Drop>> {
+pub struct KeptAnswer<A: Left<Value: Drop>> {
     value: Option<A::Value>,
 }
 
-impl<A: Left<Value: Drop>> Model for Found<A> {
+impl<A: Left<Value: Drop>> Model for KeptAnswer<A> {
     ghost use Rattle.std.specs.Prelude.{Option, IfSome};
     ghost use Rattle.std.specs.Coded.{coded_option};
 
@@ -124,7 +125,7 @@ impl<A: Left<Value: Drop>> Model for Found<A> {
     ghost invariant = { λ found. IfSome found.value A.may_be };
 }
 
-impl<A: Left<Value: Drop>> Found<A> {
+impl<A: Left<Value: Drop>> KeptAnswer<A> {
     ghost use Rattle.std.specs.Prelude.{◌↔◌, true, None, IfSome, IsSome};
 
     /// Whether there is a value.
@@ -196,7 +197,7 @@ impl<A: Left<Value: Drop>> LockedSlot<A> {
     }
 
     /// The owner leaves the slot: no value is put there any more. What was there comes with it.
-    pub fn abandon<R: Wait>(&self, rt: &R) -> Found<A> {
+    pub fn abandon<R: Wait>(&self, rt: &R) -> KeptAnswer<A> {
         // meeting: Abandon
         enter(&self.slot, rt).abandon()
     }

@@ -1,4 +1,4 @@
-//! What all parts keep, beside what their steps do. Bodies are empty.
+//! What all parts keep, apart from what their steps do. Bodies are empty.
 ghost use Rattle.std.specs.Prelude.{◌≡◌, ◌<◌, ◌≤◌, ℕ, not, Bool, List, [], ◌∷◌, length, slice_get, Option};
 ghost use Rattle.blocking_pool.specs.Limits.{limit_of_setting};
 ghost use Rattle.blocking_pool.specs.Pools.{empty_pool};
@@ -20,8 +20,9 @@ ghost use Rattle.blocking_parts.specs.Moves.{CopierMoves, Steps};
 ghost use Rattle.blocking_parts.specs.Parts.{Parts, next_at};
 ghost use Rattle.blocking_parts.specs.Ties.{IsFree, IsLawful};
 
-/// Whatever step lawful parts take, by the starts of a plan: they stay lawful, with the moment of the step added to what was seen;
-/// their setting stays; and the moment keeps the law of steps, where the step asks and drops no owner that is lent to a copier. The event carries no more bytes than were told before the step, of lawful parts or others.
+/// Whatever step lawful parts take, by the starts of a plan, they stay lawful, and their setting stays. The moment of the step is added to
+/// what was seen. It keeps the law of steps, where the step asks and drops no owner that is lent to a copier. The event carries no more
+/// bytes than were announced before the step, of lawful parts or others.
 pub fn each_step()
     ensures lawful { (setting : ℕ) (plan : List Bool) (w new : Parts) (past : List Moment)
         (step : Step) (e : Event) → IsLawful setting plan w past →
@@ -63,8 +64,8 @@ pub fn beginnings()
     ensures limit { (text : Option (List ℕ)) → 0 < limit_of_setting text }
 {}
 
-/// What is read off lawful parts: queued jobs are served; what the workers hold is what was seen, and accounts for the workers, the
-/// idle ones and the running jobs; the step of a worker's job has an action where that job's next action is its own to take; and the
+/// What is read off lawful parts. Queued jobs are served. What the workers hold is what was seen, and accounts for the workers, the
+/// idle ones and the running jobs. The step of a worker's job has an action where that job's next action is its own to take. The
 /// poll of an owner is under way where it was seen to be.
 pub fn readings()
     ensures served { (setting : ℕ) (plan : List Bool) (w : Parts) (past : List Moment) →

@@ -163,7 +163,7 @@ impl Parts {
         }
     }
 
-    // A poll of this owner begins, and asks for this. The event bears a copy of the call, whose memory is had first.
+    // A poll of this owner begins, and asks for this. The event bears a copy of the call, whose memory is taken first.
     fn ask(&mut self, place: usize, call: HandleCall) -> Result<Event, AllocError>
         ensures ok { IfOk result (λ e. Moves NeverAsked (step.Ask place call) self.old e self.new) }
         ensures err { OnErr result (self.new ≡ self.old) }
@@ -220,7 +220,7 @@ impl Parts {
         }
     }
 
-    // The poll of this owner begins a session, whose job is of the owner's client: its memory is had first. Where there is none for its pipe,
+    // The poll of this owner begins a session, whose job is of the owner's client: its memory is taken first. Where there is none for its pipe,
     // the crew tells the refusal.
     fn lend<S: Starter>(&mut self, place: usize, starter: &mut S) -> Result<Event, AllocError>
         requires there { place < length self.old.owners }
@@ -273,7 +273,7 @@ impl Parts {
         }
     }
 
-    // The poll of this owner acts by itself, and so many bytes come out of the pipe: the room for them is had first.
+    // The poll of this owner acts by itself, and so many bytes come out of the pipe: the room for them is taken first.
     fn act(&mut self, place: usize, count: usize) -> Result<Event, AllocError>
         requires there { place < length self.old.owners }
         requires acts { IfSome (slice_get self.old.owners place) (λ owner. next_of owner ≡ next.Acts count) }
@@ -387,7 +387,7 @@ impl Parts {
         })
     }
 
-    // The job of a worker takes its next action, where that is its own to take. The memory for the bytes that it finds is had first.
+    // The job of a worker takes its next action, where that is its own to take. The memory for the bytes that it finds is taken first.
     fn job(&mut self, worker: usize) -> Result<Event, AllocError>
         ensures ok { IfOk result (λ e. Moves NeverAsked (step.Job worker) self.old e self.new) }
         ensures err { OnErr result (self.new ≡ self.old) }
@@ -403,7 +403,7 @@ impl Parts {
         }
     }
 
-    // What the job of a worker asked for is answered. The event bears a copy of the answer, whose memory is had first.
+    // What the job of a worker asked for is answered. The event bears a copy of the answer, whose memory is taken first.
     fn io(&mut self, worker: usize, answer: Answer) -> Result<Event, AllocError>
         ensures ok { IfOk result (λ e. Moves NeverAsked (step.Io worker answer) self.old e self.new) }
         ensures err { OnErr result (self.new ≡ self.old) }

@@ -38,12 +38,12 @@ pub use token::{Turn, WakeNote, WorkerPass};
 
 /// A pool: the queue of its jobs, a table of the jobs that aren't over, and the counts of its workers.
 ///
-/// Each job is a client's: whoever adds jobs by [`Pool::add_for`] names a client by a number of their own choice, and jobs
+/// Each job is a client's. Whoever adds jobs by [`Pool::add_for`] names a client by a number of their own choice, and jobs
 /// that are added by [`Pool::add`] are client 0's. Where a client limit is set, by [`Pool::set_client_limit`], no client
-/// has more jobs taken at a time than the limit says, so that one client with many jobs leaves workers to the others.
-/// A job is *ready* where it is queued and its client has room: fewer of the client's jobs run than the limit. Where no
-/// client limit is set, each queued job is ready. A job that was taken counts as running until its turn ends, also one
-/// that was handed out to be dropped.
+/// has more jobs taken at a time than the limit says. So one client with many jobs leaves workers to the others. A job is
+/// *ready* where it is queued and its client has room: fewer of the client's jobs run than the limit. Where no client
+/// limit is set, each queued job is ready. A job that was taken counts as running until its turn ends, also one that was
+/// handed out to be dropped.
 #[derive(Drop)]
 pub struct Pool<J: Job> {
     table: Table<J>,
@@ -110,12 +110,12 @@ impl<J: Job> Pool<J> {
         self.add_for(0, job, starter)
     }
 
-    /// Adds a job of this client at the queue's end, and lets the pool grow by the jobs that are ready, and by the new one
-    /// where its client has room. A client is known while it has jobs that aren't over, and needs nothing before and after.
+    /// Adds a job of this client at the queue's end. The pool grows by the jobs that are ready, and by the new one where
+    /// its client has room. A client is known while it has jobs that aren't over, and needs nothing before and after.
     ///
-    /// A refused job is handed back, and the queue, the jobs and the next serial are then as before: `Numbers` where the
-    /// serials are used up, `Memory` where there was no room for one more job, `NoWorker` where no worker is there after
-    /// the growth. Only a call that adds a job takes memory.
+    /// A refused job is handed back, and the queue, the jobs and the next serial are then as before. The refusal is
+    /// `Numbers` where the serials are used up, `Memory` where there was no room for one more job, `NoWorker` where no
+    /// worker is there after the growth. Only a call that adds a job takes memory.
     pub fn add_for<S: Starter>(
         &mut self,
         client: u32,
@@ -184,7 +184,7 @@ impl<J: Job> Pool<J> {
         Took::Run(Turn::new(no), value)
     }
 
-    /// A wake reaches its job. A parked job stands at the queue's end again, and the pool grows; a running one is flagged,
+    /// A wake reaches its job. A parked job stands at the queue's end again, and the pool grows. A running one is flagged,
     /// so that it goes back to the queue where its run ends waiting. Any other job is as it was, and so is the pool where
     /// the number is no job's.
     pub fn wake<S: Starter>(&mut self, note: WakeNote, starter: &mut S) -> Woke
@@ -260,10 +260,10 @@ impl<J: Job> Pool<J> {
         count
     }
 
-    /// A turn ends. A job that is over leaves the pool, and a job that waits is parked, or goes back to the queue's end
-    /// where a wake met it since it was taken; the worker is free. A job that waits and was cancelled, or bears a mark, is
-    /// handed out to be dropped, and its turn goes on until then. A turn whose job isn't running in this pool comes back as
-    /// a stranger's, with the job that came with it, and the pool is as before.
+    /// A turn ends. A job that is over leaves the pool. A job that waits is parked, or goes back to the queue's end
+    /// where a wake met it since it was taken. The worker is free then. A job that waits and was cancelled, or bears a
+    /// mark, is handed out to be dropped, and its turn goes on until then. A turn whose job isn't running in this pool
+    /// comes back as a stranger's, with the job that came with it, and the pool is as before.
     pub fn end(&mut self, turn: Turn, finish: Finish<J>) -> Gone<J>
         ensures { Ends J.may_answer self.old turn finish result self.new }
     {

@@ -10,7 +10,8 @@ use crate::place::{Origin, Place};
 pub enum Lock {
     /// The pool's.
     Pool,
-    /// The desk's, at which whoever has the pool's asks for a worker and waits for the spawner's answer. Nobody takes another lock beside it.
+    /// The desk's, at which whoever has the pool's asks for a worker and waits for the spawner's answer. Nobody takes another lock while it
+    /// has this one.
     Desk,
 }
 
@@ -40,7 +41,7 @@ pub enum Step {
     EndLook(usize),
     /// A worker takes the lock after its look, and sleeps if it sees that it may.
     Wait(usize),
-    /// The time of a worker is up that sleeps, or that was woken and hasn't the lock yet: it finds out by its clock, also where a ring
+    /// The time of a worker is up that sleeps, or that was woken and hasn't the lock yet. It finds out by its clock, also where a ring
     /// woke it.
     TimeOut(usize),
     /// A worker that sleeps wakes by itself.

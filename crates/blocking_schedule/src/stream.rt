@@ -1,8 +1,8 @@
-//! How a job passes items to its owner through a ring without a lock, with a lock round the two seats alone: the steps of both sides, in any
-//! order.
+//! How a job passes items to its owner through a ring without a lock, with a lock round the two seats alone. The steps of both sides come
+//! in any order.
 //!
 //! A step is one atomic act, or one section under the seats' lock. The items are numbers: the first that is sent is 0, the next 1, so inside
-//! are the numbers from `popped` up to `pushed`. A waker is told by the number of the poll that registered it.
+//! are the numbers from `popped` up to `pushed`. A waker goes by the number of the poll that registered it.
 ghost use Rattle.std.specs.Prelude.{◌≡◌, ◌≤◌};
 ghost use Rattle.blocking_schedule.specs.Streams.{IsSound, IsEmpty, has_room, OwnerIsHeard, JobIsHeard, SomeoneIsWoken};
 ghost use Rattle.blocking_schedule.specs.Streams.{SeatsAreFlagged, ItemsAreInOrder, AnswersArePlain, IsByMoment};

@@ -83,8 +83,8 @@ pub fn order()
         (moment (Take 1) (Worker 1) (Some 2) (Took 2) 2) }
 {}
 
-/// Where a client is at its limit, its jobs are passed by: a take gives the first job of another client, and no later one of the same; and
-/// it finds none where those alone are queued.
+/// Where a client is at its limit, its jobs are passed by. A take gives the first job of another client, and no later one of the same. It
+/// finds none where those alone are queued.
 pub fn clients()
     // clients 1 / accepted 1 +1 / accepted 2 / accepted 3 / arrived 1 / took 1 +2 / arrived 2 / took 3: job 2 is of the client of job 1
     ensures accepts_passing_by { Legal 4 [] (one_at_limit ▸ moment (Take 2) (Worker 2) (Some 3) (Took 3) 3) }
@@ -261,7 +261,7 @@ pub fn sweeps()
         (moment (Take 1) (Worker 1) (Some 2) (TookDropped 2) 2) }
 {}
 
-/// A turn ends as its run did: done, or dropped after giving up; one that waits is handed out where it was let go, goes back
+/// A turn ends as its run did: done, or dropped after giving up. One that waits is handed out where it was let go, goes back
 /// where it was woken, and else parks.
 pub fn ends()
     // .. / finished / ended 1 done

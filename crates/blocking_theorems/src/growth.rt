@@ -88,7 +88,7 @@ pub fn starts_for_ready_jobs()
     ensures none_turned_away { turned_away one_at_limit (moment (Spawn 8) Pool None (Refused Memory) 3) (Refused Memory) ≡ 0 }
 {}
 
-/// The law of growth leaves one answer alone: by what was seen before, what was done, and the client of a job that came with it, the
+/// The law of growth leaves one answer alone. By what was seen before, what was done, and the client of a job that came with it, the
 /// starts are known.
 pub fn one_growth()
     ensures { (setting : ℕ) (plan : List Bool) (past : List Moment) (now other : Moment) →

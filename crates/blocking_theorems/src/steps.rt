@@ -15,8 +15,9 @@ ghost use Rattle.blocking_laws.specs.declared.step.Answer.TheVariants.{Number};
 ghost use Rattle.blocking_laws.specs.declared.step.Step.TheVariants.{Spawn, OfTask, Arrive, Take, Job, Io, End, Wait, Late, SetLimit, Sweep, Stray, Strike, SetClientLimit};
 ghost use Rattle.blocking_laws.specs.declared.step.TaskCall.TheVariants.{Poll, Cancel, Detach, Drop};
 
-/// Nothing is done at the pool exactly where nobody is left to arrive, a job was never accepted or may not be cancelled, or the
-/// limit, of workers or of each client's jobs, would be 0; a new job, a sweep and taking the client limit away always have an action.
+/// In three cases alone nothing is done at the pool. Nobody is left to arrive; or a job was never accepted or may not be cancelled;
+/// or the limit, of workers or of each client's jobs, would be 0. A new job, a sweep and taking the client limit away always have an
+/// action.
 pub fn nothing_at_the_pool()
     // nothing (nothing was started)
     ensures accepts_no_start { Legal 1 [] ([] ▸ moment Arrive Pool None NoAction 1) }
@@ -132,8 +133,8 @@ pub fn nothing_by_tasks()
         (moment (OfTask 0 Detach) (Task 0) None TaskDetached 2) }
 {}
 
-/// Nothing is done by a worker exactly where it isn't there, has a job in hand and is to take or to wait, or has none that does
-/// this next.
+/// In three cases alone nothing is done by a worker. It isn't there; or it has a job in hand and is to take or to wait; or
+/// it has none that does this next.
 pub fn nothing_by_workers()
     // nothing (nobody arrived)
     ensures accepts_no_worker { Legal 1 [] ([] ▸ moment (Take 1) (Worker 1) None NoAction 1) }

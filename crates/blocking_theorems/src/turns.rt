@@ -110,7 +110,7 @@ pub fn apart()
         (moment (Io 1 (Number 5)) (Worker 1) (Some 1) (Answered (Number 5)) 3) }
 {}
 
-/// What the workers hold accounts for them: each that is there holds a pass or a turn, nobody else holds one, and there is one
+/// What the workers hold accounts for them. Each that is there holds a pass or a turn, nobody else holds one, and there is one
 /// turn for each running job.
 pub fn staffing()
     // nobody was started: no pass, no turn

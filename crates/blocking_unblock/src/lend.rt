@@ -8,14 +8,16 @@ ghost use Rattle.blocking_core.specs.declared.unblock.State.TheVariants.{Idle, L
 ghost use Rattle.blocking_unblock.specs.Owners.{kind_of, crossed, is_back};
 ghost use Rattle.blocking_unblock.specs.Polls.{Kept, Onward};
 
-use crate::parts::{ItemParts, ReadParts, WriteParts, item_parts, read_parts, write_parts};
+use crate::new_session::{ItemParts, ReadParts, WriteParts, item_parts, read_parts, write_parts};
 use crate::session::{Session, Side};
 use crate::spare::Spare;
 use blocking_core::io::Position;
 use blocking_core::pool::{Carries, Job, Refusal, Refused};
 use blocking_core::task::{CallOn, OfSlot, Seat};
 use blocking_executor::{Entered, Executor, Runtime};
-use blocking_jobs::{ItemJob, Linked, OpJob, ReadJob, ResultPlace, ResultSeat, SeekJob, WriteJob};
+use blocking_jobs::{
+    ItemJob, OpJob, ReadJob, ResultPlace, ResultSeat, SeekJob, WriteJob, new_share,
+};
 use futures::task::Context;
 use std::io::{Read, Seek, Write};
 use std::mem;
@@ -49,7 +51,7 @@ pub(crate) trait Lends<T: Drop, I: Drop, J: Job, H: Runtime> {
     /// What it has got by now.
     ghost keeps: { Self → Kept → Type 0 };
 
-    /// Hands the handle to the job of a new session, whose memory is had before it enters: what is spare, where the session has a use for it.
+    /// Hands the handle to the job of a new session, whose memory is taken before it enters: what is spare, where the session has a use for it.
     fn lend(
         &mut self,
         executor: &Executor<J, H>,
@@ -127,10 +129,10 @@ impl<T: Read + Drop, I: Drop, J: Job + Carries<ReadJob<T, H>>, H: Runtime> Lends
         let ReadParts {
             side,
             end,
-            link,
+            share,
             piece,
         } = parts;
-        match enter(executor, ReadJob::new(rt, handle, piece, end, link)) {
+        match enter(executor, ReadJob::new(rt, handle, piece, end, share)) {
             Ok(job) => Ok(Session::new(job, side)),
             Err(Refused { back, why }) => match back.into_reader() {
                 Some(back) => Err(Refused { back, why }),
@@ -167,8 +169,8 @@ impl<T: Write + Drop, I: Drop, J: Job + Carries<WriteJob<T, H>>, H: Runtime> Len
         let Ok(parts) = write_parts(rt, capacity.bytes, spare) else {
             return Err(no_memory(handle));
         };
-        let WriteParts { side, end, link } = parts;
-        match enter(executor, WriteJob::new(rt, handle, end, link)) {
+        let WriteParts { side, end, share } = parts;
+        match enter(executor, WriteJob::new(rt, handle, end, share)) {
             Ok(job) => Ok(Session::new(job, side)),
             Err(Refused { back, why }) => match back.into_writer() {
                 Some(back) => Err(Refused { back, why }),
@@ -215,8 +217,8 @@ impl<T: Iterator<Item = I> + Drop, I: Drop, J: Job + Carries<ItemJob<T, I, H>>, 
         let Ok(parts) = item_parts(rt, capacity.items) else {
             return Err(no_memory(handle));
         };
-        let ItemParts { side, end, link } = parts;
-        match enter(executor, ItemJob::new(rt, handle, end, link)) {
+        let ItemParts { side, end, share } = parts;
+        match enter(executor, ItemJob::new(rt, handle, end, share)) {
             Ok(job) => Ok(Session::new(job, side)),
             Err(Refused { back, why }) => match back.into_iterator() {
                 Some(back) => Err(Refused { back, why }),
@@ -256,11 +258,11 @@ impl<T: Seek + Drop, I: Drop, J: Job + Carries<SeekJob<T, H>>, H: Runtime> Lends
         // (given back before more is asked for)
         drop(spare);
         let rt = executor.runtime();
-        let Ok(linked) = Linked::new(rt) else {
+        let Ok(both) = new_share(rt) else {
             return Err(no_memory(handle));
         };
-        let Linked { way_back, link } = linked;
-        match enter(executor, SeekJob::new(rt, handle, self.to, link)) {
+        let (way_back, share) = both;
+        match enter(executor, SeekJob::new(rt, handle, self.to, share)) {
             Ok(job) => Ok(Session::new(job, Side::Seeking(self.to, way_back))),
             Err(Refused { back, why }) => match back.into_handle() {
                 Some(back) => Err(Refused { back, why }),
@@ -336,18 +338,18 @@ impl<
         // (given back before more is asked for)
         drop(spare);
         let rt = executor.runtime();
-        let Ok(linked) = Linked::new(rt) else {
+        let Ok(both) = new_share(rt) else {
             return Err(no_memory(handle));
         };
         let Ok(result) = ResultPlace::new(rt) else {
             return Err(no_memory(handle));
         };
-        let Linked { way_back, link } = linked;
+        let (way_back, share) = both;
         let ResultPlace { seat, place } = result;
         let Stage::Given(operation) = mem::replace(&mut self.stage, Stage::Begun(seat)) else {
             unreachable!()
         };
-        match enter(executor, OpJob::new(rt, operation, handle, place, link)) {
+        match enter(executor, OpJob::new(rt, operation, handle, place, share)) {
             Ok(job) => Ok(Session::new(job, Side::Operating(way_back))),
             Err(Refused { back, why }) => {
                 let (operation, handle) = back.into_parts();

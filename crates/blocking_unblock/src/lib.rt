@@ -2,7 +2,7 @@
 #![tactic(auto)]
 
 mod lend;
-mod parts;
+mod new_session;
 mod place;
 mod session;
 mod spare;

@@ -250,8 +250,8 @@ impl<T: Drop, I: Drop, H: Wait + Copy> Session<T, I, H> {
         told_of_fill(end.fill_or_seat(cx, bytes))
     }
 
-    /// The first item, where the session is one of items, its end is open and one is there; and the note of a job that waits, which has to be
-    /// spent. It waits for nothing, but for a moment where the two go in step.
+    /// The first item, where the session is one of items, its end is open and one is there. Also the note of a job that waits, which has to
+    /// be spent. It waits for nothing, but for a moment where the two go in step.
     pub(crate) fn try_receive(&mut self) -> Option<(I, Option<WakeNote>)>
         ensures some { IfSome result (λ got. (kind_of self.old.side ≡ Streaming) × (self.old.owner_end ≡ Open)) }
         ensures received { IfSome result (λ got. crossed self.new.side ≡ crossed self.old.side + 1) }

@@ -30,16 +30,16 @@ use std::{fmt, io, mem};
 /// The owner of a blocking handle, which it lends to jobs on a pool: polls then use the handle without waiting for it.
 ///
 /// Dropping it waits for no job. It takes the locks of the pipe and of the pool, and may start a worker, as a wake does. A handle that is with its
-/// owner is dropped here, and one that its job gave back by whoever lets go last. Else the owner's end of the pipe is closed, and a worker drops the
-/// handle with the session's job: of one that waits when it is next taken, of one that runs when it comes to its end. Where no worker is left and
-/// none can be had, that job stays queued, and where its client is at its limit of running jobs it isn't taken before another job of that client is
-/// over or waits. A job that reads or gives items makes one more call at most. One that writes and runs writes all that it
-/// was given, and flushes; one that waits has written all, and is dropped unflushed unless a worker takes it first, as what a queued one had to
-/// write is lost. A seek or an operation under way is made.
+/// owner is dropped here, and one that its job gave back by whoever lets go last. Else the owner's end of the pipe is closed, and a worker
+/// drops the handle with the session's job. It drops that of a job that waits when it is next taken, that of one that runs when it comes to
+/// its end. Where no worker is left and none can be started, that job stays queued. Where its client is at its limit of running jobs it
+/// isn't taken before another job of that client is over or waits. A job that reads or gives items makes one more call at most. One that
+/// writes and runs writes all that it was given, and flushes. One that waits has written all, and is dropped unflushed unless a worker
+/// takes it first. What a queued one had to write is lost. A seek or an operation under way is made.
 ///
-/// The memory of a session that read or wrote is kept for the next one of its kind: that of its pipe and its pieces, of which no more was touched
-/// than was used. It is given back where a session of another kind begins or one is refused, and with the owner: by [`Unblock::into_inner`], a
-/// close, or a drop.
+/// The memory of a session that read or wrote is kept for the next one of its kind. It is that of its pipe and its pieces, of which no more
+/// was touched than was used. It is given back where a session of another kind begins or one is refused, and with the owner: by
+/// [`Unblock::into_inner`], a close, or a drop.
 ///
 /// A handle is moved as it is, with its owner and with its job, so one that holds a buffer of its own is best lent in a `Box`.
 ///
@@ -81,9 +81,9 @@ impl<T: Drop, I: Drop, J: Job, H: Runtime> Unblock<T, I, J, H> {
         }
     }
 
-    /// The owner of a handle, whose sessions have pipes for at most `capacity` bytes or items. One that writes has its memory in pieces of 65,536
-    /// bytes, or of the capacity where that is less, and one that reads in such pieces or two halves of the capacity. It takes three of them
-    /// beside the capacity, or not quite four where they don't fill it evenly.
+    /// The owner of a handle, whose sessions have pipes for at most `capacity` bytes or items. One that writes has its memory in pieces of
+    /// 65,536 bytes, or of the capacity where that is less. One that reads has it in such pieces or two halves of the capacity. It takes
+    /// three of them in addition to the capacity, or not quite four where they don't fill it evenly.
     pub fn with_capacity(capacity: usize, executor: Executor<J, H>, handle: T) -> Self
         requires { 0 < capacity }
         ensures place { result.place ≡ AtOwner handle }

@@ -1,5 +1,5 @@
-//! Each call of an owner, left where it waits, with each other call after it: once the handle goes on that one gives its right answer, and the
-//! handle goes once.
+//! Each call of an owner, left where it waits, with each other call after it. Once the handle goes on that one gives its right answer, and
+//! the handle goes once.
 use self::Start::{Inside, InsideAndFails, Queued};
 use crate::calls::Call::{Close, Flush, Handle, Next, Operate, Read, Seek, Write};
 use crate::calls::{Answer, BY, Call, FIRST, Scene, Stage, TO, frees, goes_once, pool, taken_back};

@@ -1,5 +1,5 @@
-//! Owners and futures that are dropped, by where the handle is and how its job stands: the handle goes once, at once where it can, after no more
-//! calls than were under way, and then the pool rests.
+//! Owners and futures that are dropped, by where the handle is and how its job stands. The handle goes once, at once where it can, after no
+//! more calls than were under way, and then the pool rests.
 use self::Standing::{Closed, Idle, Inside, Over, Parked, Queued, Stopped};
 use self::Way::{Drops, IntoInner, StopsFirst};
 use crate::calls::Call::{Close, Handle, Next, Operate, Read, Seek, Write};

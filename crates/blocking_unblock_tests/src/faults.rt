@@ -1,5 +1,5 @@
-//! A handle of one byte a call, of which any one or any two calls fail: what came before is there, each fault is told once, and then the handle is
-//! asked again. What must be seen is counted from the calls by the rules.
+//! A handle of one byte a call, of which any one or any two calls fail. What came before is there, each fault is reported once, and then
+//! the handle is asked again. What must be seen is counted from the calls by the rules.
 use crate::places::{Faults, Gate, Gated};
 use blocking::{
     AsyncRead, AsyncReadExt, AsyncSeek, AsyncSeekExt, AsyncWrite, AsyncWriteExt, Executor, Host,

@@ -1,4 +1,4 @@
-//! Copies of events, into room that was had before.
+//! Copies of events, into room that was taken before.
 ghost use Rattle.std.specs.Prelude.{◌≡◌, ◌≤◌, [], length, vec_capacity};
 ghost use Rattle.blocking_parts.specs.Carried.{bytes_of};
 

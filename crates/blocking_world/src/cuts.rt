@@ -6,7 +6,8 @@ use blocking_laws::{Act, Event, Party};
 use std::alloc::{AllocError, Global};
 
 /// The events of this owner, by its number from 0, and of its jobs, in the order in which they are given. Those that the pool alone
-/// decides aren't among them (a take, the end of a turn, a job that is handed out to be dropped), nor those of steps that did nothing.
+/// decides aren't among them: a take, the end of a turn, a job that is handed out to be dropped. Nor are those of steps that did
+/// nothing.
 ///
 /// Of what a world saw in which no new job was refused, they keep the owner's own laws, which name no other owner (docs/LAWS.md, "Solo").
 /// Err where there is no memory for the list or for the bytes in it.

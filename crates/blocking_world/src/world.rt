@@ -83,7 +83,7 @@ impl World {
         }
     }
 
-    // Takes one step. The trace keeps it with its event, of which the caller gets a copy. The room for all of it is had before the step
+    // Takes one step. The trace keeps it with its event, of which the caller gets a copy. The room for all of it is taken before the step
     // acts, so where there is none, nothing has happened.
     fn step(&mut self, step: &Step) -> Result<Event, AllocError>
         ensures ok { IfOk result (λ e. self.new.history ≡ record self.old.history {
@@ -186,7 +186,7 @@ fn close_with<L: Ledger>(assembly: Assembly, blank: Blank)
 /// which they entered the queue, whatever their clients.
 ///
 /// Err where there was no room for the world's own lists: the world is then where the steps so far left it. The room for a
-/// step and its event is had before the step acts.
+/// step and its event is taken before the step acts.
 #[tactic(auto, using(blocking_copiers::proofs::Readings::served_now, blocking_copiers::proofs::Readings::staffed_now, blocking_copiers::proofs::Readings::held_now, crate::proofs::Runs::behind_now, crate::proofs::Runs::unlimited_now))]
 pub fn run(alloc: Global, world: &mut World, steps: &[Step]) -> Result<Vec<Event>, AllocError>
     ensures ok { IfOk result

@@ -1,6 +1,6 @@
 //! The decision core of a writing job. It offers its writer what stands at the front of the pipe, and lets go of what the writer
-//! took, until the owner's end is closed and the pipe is empty, or the writer fails. Then it flushes the writer, closes its end of
-//! the pipe, and leaves the writer in the slot.
+//! took. It does so until the owner's end is closed and the pipe is empty, or the writer fails. Then it flushes the writer, closes
+//! its end of the pipe, and leaves the writer in the slot.
 ghost use Rattle.std.specs.Prelude.{◌≡◌};
 ghost use Rattle.blocking_core.specs.Writing.{fault_in};
 

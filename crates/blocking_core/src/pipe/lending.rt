@@ -10,8 +10,8 @@ use std::alloc::{AllocError, Global};
 use std::mem;
 
 /// A store of pieces, so many items each. A whole piece comes in as it is where those inside are whole too, and memory for the next is given for
-/// it. The first piece goes out as it is where nothing of it is gone and a whole one is asked for, and that which is handed in for it is kept as
-/// memory. All else is copied.
+/// it. The first piece goes out as it is where nothing of it is gone and a whole one is asked for. That which is handed in for it is kept
+/// as memory. All else is copied.
 pub struct LendingStore;
 
 /// The memory of such a store: pieces, those inside and those that are spent.

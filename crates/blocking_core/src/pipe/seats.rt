@@ -17,7 +17,8 @@ impl Seat<OfItemRing> {
     }
 }
 
-/// The two seats of an item ring: the owner's waker and the job's number, for whoever waits. They stand under a lock of their own, beside the ring.
+/// The two seats of an item ring: the owner's waker and the job's number, for whoever waits. They stand under a lock of their own, apart
+/// from the ring.
 ///
 /// A waker that a call answers has left its seat, as with a pipe's.
 #[derive(Drop)]

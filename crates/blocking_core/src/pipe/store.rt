@@ -8,7 +8,7 @@ use std::alloc::{AllocError, Global};
 /// What holds items in a row, at most so many, as those of a pipe. Contracts see its memory as a list and a capacity, so a pipe says the same
 /// over every store. No call but [`Store::new`] is to take memory.
 ///
-/// A store is a name, by which a pipe is told how its items are kept, and no value: what is kept is its `Memory`.
+/// A store is a name, which says how a pipe's items are kept, and no value: what is kept is its `Memory`.
 pub trait Store<X: Drop> {
     /// The memory in which its items stand.
     type Memory: Drop;
@@ -67,8 +67,8 @@ pub trait Store<X: Drop> {
     }
 }
 
-/// A store of items that are copied, which can be used many at once. A piece is memory for many items that passes between a store and whoever
-/// uses it: a store may take and give pieces as they are, and else copies what stands there.
+/// A store of items that are copied, which can be used many at once. A piece is memory for many items that passes between a store and
+/// whoever uses it. A store may take and give pieces as they are, and else copies what stands there.
 pub trait CopyStore<X: Copy>: Store<X> {
     /// The item at a place, counted from the front.
     fn get(memory: &Self::Memory, place: usize) -> X

@@ -1,5 +1,5 @@
-//! The player of the rows of handles that are lent: the two machines, each asked for its next action and told what the pipe, the slot
-//! and the handle answer. It promises nothing.
+//! The player of the rows of handles that are lent. It asks each of the two machines for its next action, and says what the pipe, the
+//! slot and the handle answer. It promises nothing.
 mod bytes;
 mod items;
 mod once;
@@ -150,7 +150,7 @@ impl Core {
     }
 }
 
-/// What a job leaves in its slot beside the handle.
+/// What a job leaves in its slot with the handle.
 #[derive(Clone, Copy)]
 enum Left {
     Back(Option<Fault<u8>>),

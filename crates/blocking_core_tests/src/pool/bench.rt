@@ -16,7 +16,7 @@ struct StandIn;
 
 impl Claim for StandIn {}
 
-/// A job that is told apart by its number, and that may bear a mark.
+/// A job that is known by its number, and that may bear a mark.
 #[derive(Clone, Copy)]
 pub(super) struct Marked {
     number: u32,

@@ -1,5 +1,5 @@
-//! Wakes and cancels that come twice, too late, or by the number of a job that is over, before and after its place is used again: each changes
-//! what the rules name for the standing, and nothing of another job.
+//! Wakes and cancels that come twice, too late, or by the number of a job that is over, before and after its place is used again. Each
+//! changes what the rules name for the standing, and nothing of another job.
 use super::bench::play;
 use super::step::Count::{Idle, Queued};
 use super::step::Deed::{Cancel, Place, Wake};

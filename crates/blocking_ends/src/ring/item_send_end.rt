@@ -142,8 +142,8 @@ impl<X: Drop, R: PlaceRule<X>, H: Wait + Copy> ItemSendEnd<X, R, H> {
         self.shared.take_owner(&self.rt)
     }
 
-    /// Sends an item. Where the ring is full the job is seated and the item comes back; it also comes back where the owner's end is closed, or this
-    /// one, or where no more than 18446744073709551615 items may be sent in all.
+    /// Sends an item. Where the ring is full the job is seated and the item comes back. It also comes back where the owner's end is closed,
+    /// or this one, or where no more than 18446744073709551615 items may be sent in all.
     pub fn send(&mut self, me: JobNo, item: X) -> ItemSending<X>
         requires { R.holds self.old.sent item }
         ensures sent { self.new.sent ≡ self.old.sent + sent_by_send result }

@@ -1,4 +1,4 @@
-//! What stands under a lock beside an item ring: the seats of those who wait, and where the items end.
+//! What stands under a lock next to an item ring: the seats of those who wait, and where the items end.
 ghost use Rattle.std.specs.Prelude.{◌≡◌, None, Some, IfSome};
 
 use crate::rule::PlaceRule;
@@ -8,11 +8,11 @@ use blocking_lock::OwnerWaker;
 use blocking_pool::pool::{JobNo, WakeNote};
 use std::marker::{Model, PhantomData};
 
-/// The proof that a job told where the items end. It is made where that is written down, and nowhere else.
+/// The proof that a job said where the items end. It is made where that is written down, and nowhere else.
 #[derive(Clone, Copy, Debug)]
 pub struct ToldEnd(());
 
-/// The proof that an owner received all items and was told so. It is made where that is read, and nowhere else.
+/// The proof that an owner received all items and heard so. It is made where that is read, and nowhere else.
 #[derive(Clone, Copy, Debug)]
 pub struct SeenEnd(());
 
@@ -31,7 +31,7 @@ impl JobSeat {
     }
 }
 
-/// What is told to who has received so many items.
+/// What is answered to who has received so many items.
 pub(super) enum Told {
     /// More may be sent.
     Nothing,
@@ -87,7 +87,7 @@ impl<X: Drop, R: PlaceRule<X>> Kept<X, R> {
         ToldEnd(())
     }
 
-    /// What is told to who has received so many.
+    /// What is answered to who has received so many.
     pub(super) fn ask(&self, received: u64) -> Told
         ensures told { IsTold self.now.end received result }
         ensures ended { IfEnd result (R.ended received) }

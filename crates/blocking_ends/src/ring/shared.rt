@@ -1,4 +1,4 @@
-//! What both ends of an item ring share beside the ring.
+//! What both ends of an item ring share in addition to the ring.
 ghost use Rattle.std.specs.Prelude.{◌<◌};
 ghost use Rattle.rtrb.specs.Ring.{ProducerLooked, known_free};
 
@@ -32,7 +32,7 @@ pub(super) enum Again {
 #[derive(Drop)]
 pub(super) struct OwnerSeat(Seat<OfItemRing>);
 
-/// That the end of the items wasn't told to who looked. Who looked by a seat has it back.
+/// That who looked didn't hear of the end of the items. Who looked by a seat has it back.
 #[derive(Drop)]
 pub(super) struct NotEnded<S: Drop>(S);
 
@@ -44,7 +44,7 @@ impl NotEnded<OwnerSeat> {
     }
 }
 
-/// What an owner is told of where the items end, who looks by `S`.
+/// What an owner, who looks by `S`, hears of where the items end.
 pub(super) enum Asked<S: Drop> {
     /// More may be sent.
     Nothing(NotEnded<S>),
@@ -54,8 +54,8 @@ pub(super) enum Asked<S: Drop> {
     End(SeenEnd),
 }
 
-/// What both ends share beside the ring: the seats and the end of the items under a lock; and flags that say without it who may be seated and
-/// which end is closed. All but that of the owner's end change under the lock alone.
+/// What both ends share in addition to the ring. The seats and the end of the items are under a lock. Flags say without it who may be
+/// seated and which end is closed. All but that of the owner's end change under the lock alone.
 ///
 /// Who waits writes its flag and then looks at the ring and at the other's end again. Who passes an item on, or closes its end, does that first
 /// and then reads the flag. All of these are in one order, so one of them sees the other.

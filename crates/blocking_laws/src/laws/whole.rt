@@ -22,7 +22,7 @@ pub fn beginnings()
         Legal setting plan (past ▸ now) → Legal setting plan past }
 {}
 
-/// Of each client the order of entry is its takes and then its part of the queue; and the queue and the running jobs are those that
+/// Of each client the order of entry is its takes and then its part of the queue. The queue and the running jobs are those that
 /// stand so, each once. This holds of each trace that keeps the pool's law, as each legal one does.
 pub fn queue_and_running()
     ensures entered { (setting : ℕ) (plan : List Bool) (past : List Moment) →
@@ -77,7 +77,7 @@ pub fn writing_behind()
     ensures { (setting : ℕ) (plan : List Bool) (past : List Moment) → Legal setting plan past → AllWriteBehind past }
 {}
 
-/// What an owner sees rests on itself and on its own jobs: where no new job was refused, the cut of each owner keeps that owner's laws,
+/// What an owner sees rests on itself and on its own jobs. Where no new job was refused, the cut of each owner keeps that owner's laws,
 /// which name no other.
 ///
 /// A cut keeps the order: what is cut of events with the oldest first, as worlds tell them, is in reverse what is cut of the past.

@@ -56,9 +56,9 @@ impl fmt::Display for Refusal {
 impl Error for Refusal {}
 
 /// So that a `?` passes a refusal on where errors of the system go. Its kind is
-/// [`OutOfMemory`](io::ErrorKind::OutOfMemory) for want of memory, [`WouldBlock`](io::ErrorKind::WouldBlock) for want of a worker
-/// (which is what a thread that can't be started is told as) and [`Other`](io::ErrorKind::Other) where the serials are used up; it shows
-/// the same reason.
+/// [`OutOfMemory`](io::ErrorKind::OutOfMemory) for want of memory, and [`Other`](io::ErrorKind::Other) where the serials are used up.
+/// For want of a worker it is [`WouldBlock`](io::ErrorKind::WouldBlock), as for a thread that can't be started. It shows the same
+/// reason.
 impl From<Refusal> for io::Error {
     ghost use Rattle.std.specs.Prelude.{◌≡◌};
     ghost use Rattle.std.specs.IoError.{error_kind};

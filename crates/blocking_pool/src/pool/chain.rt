@@ -16,7 +16,7 @@ struct Link {
 // Node 0, at which the ring begins and ends.
 const ENDS: usize = 0;
 
-/// Places in a row. The links of a place stand beside each other in one block, whose room is made in advance.
+/// Places in a row. The links of a place stand next to each other in one block, whose room is made in advance.
 #[derive(Drop)]
 pub(crate) struct Chain {
     // A ring: node 0 is its beginning and its end, and place p has the node p + 1.

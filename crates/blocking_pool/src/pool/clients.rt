@@ -106,7 +106,7 @@ impl Clients {
         }
     }
 
-    /// The clients that are known beside client 0.
+    /// The clients that are known, without client 0.
     pub(crate) fn named(&self) -> &HashMap<u32, Client>
         ensures { AreNamed self.now.known result.now.entries }
     {

@@ -203,7 +203,7 @@ impl Counts {
     }
 
     /// Starts workers while so many ready jobs are more than five times the idle workers, up to the limit that held
-    /// when this began, and ends at the first start that is refused.
+    /// when this began. It ends at the first start that is refused.
     pub(crate) fn grow<S: Starter>(&mut self, ready: usize, starter: &mut S)
         ensures growth { (growth : Growth) ×
             Grows (asked S.Starter starter.old starter.new) ready self.old self.new growth }

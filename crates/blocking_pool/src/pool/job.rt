@@ -25,8 +25,8 @@ pub trait Job: Drop {
     /// Whether the job bears a mark: nobody wants its outcome any more.
     ///
     /// A pool asks this in the middle of its own calls, which an executor makes under the pool's lock. So it must not wait, and must
-    /// not use the executor: every worker and every caller would wait along with it, and a lock that is held already is waited
-    /// for without end. It is best an atomic's load. (`step` runs, and a job is dropped, under no lock.)
+    /// not use the executor. Every worker and every caller would wait along with it, and a lock that is held already is waited for
+    /// without end. It is best an atomic's load. (`step` runs, and a job is dropped, under no lock.)
     fn abandoned(&self) -> bool
         ensures { may_answer self.now result };
 }

@@ -82,8 +82,8 @@ pub fn jobs()
     ensures refuses_put_twice { Refuses FirstOwnerLaw first_sent (works 1 (Put 1 Absent)) }
 {}
 
-/// An owner takes the first item that is inside, waits beside an empty pipe, and sees the end of one that is closed; a job sends one item
-/// where there is room, and waits where there is none.
+/// An owner takes the first item that is inside, waits where the pipe is empty, and sees the end of one that is closed. A job sends one
+/// item where there is room, and waits where there is none.
 pub fn places()
     // .. / accepted 1 +1 / got end: the job's end is open
     ensures refuses_end_of_open_pipe { Refuses FirstOwnerLaw stream_begun (polls GotEnd 2) }
@@ -137,7 +137,7 @@ pub fn ends_of_streams()
     ensures refuses_second_end { Refuses FirstOwnerEnds (stream_ended ▸ asks Next 2) (polls (Replied NoMore) 2) }
 {}
 
-/// What an owner got is a beginning of the items that its handle gave, and one item at most is out of the handle beside what the pipe holds.
+/// What an owner got is a beginning of the items that its handle gave, and one item at most is out of the handle and not in the pipe.
 pub fn passing()
     ensures accepts_session { FirstOwnerPasses stream_ended }
     // answered item 3 / answered item 4

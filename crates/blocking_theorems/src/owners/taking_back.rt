@@ -54,7 +54,7 @@ pub fn calls()
     ensures refuses_closed { Refuses FirstOwnerLaw writer_closed (asks IntoInner 2) }
 {}
 
-/// Once the handle was asked for for good, a step that asks for anything else has no action; and an owner that gave its handle back is gone,
+/// Once the handle was asked for for good, a step that asks for anything else has no action. An owner that gave its handle back is gone,
 /// and lets no job go, while one that was dropped does.
 pub fn steps()
     // .. / asked / closed wake 1 / delivered 1 entered / waits / .. / asked / back / replied handle

@@ -8,7 +8,7 @@ ghost use Rattle.blocking_laws.specs.OwnerTraces.{reader_parked, two_told, handl
 ghost use Rattle.blocking_laws.specs.declared.event.Act.TheVariants.{OwnerClosed, Replied, Waits, Took, JobParked, Ended};
 ghost use Rattle.blocking_laws.specs.declared.event.Reply.TheVariants.{Count};
 
-/// An owner that waits for a job at rest was woken, or a wake of that job is under way; and a job that is parked has reason to wait, or a
+/// An owner that waits for a job at rest was woken, or a wake of that job is under way. A job that is parked has reason to wait, or a
 /// wake of it is under way.
 pub fn wakes()
     // .. / put 4 wake owner / delivered owner / parked / ended 1 parked: the owner was told

@@ -61,7 +61,7 @@ pub fn tables()
     ensures refuses_close_after_fault { Refuses FirstOwnerLaw unflushed_back (polls (Replied Okay) 2) }
 {}
 
-/// A writing job looks at the front of the pipe, offers that to its writer, and takes out what the writer took; after a write that fails,
+/// A writing job looks at the front of the pipe, offers that to its writer, and takes out what the writer took. After a write that fails,
 /// and of a drained pipe, it has its writer flushed, closes its end and finishes.
 pub fn jobs()
     // peeked 0102: the whole piece is offered
@@ -91,8 +91,8 @@ pub fn jobs()
         (works 1 (Peeked (97 ∷ []))) }
 {}
 
-/// An owner puts as much into its pipe as there is room for, and waits beside a full one; a job sees the front of what is inside, waits
-/// beside an empty one, and finds it drained once its owner's end is closed.
+/// An owner puts as much into its pipe as there is room for, and waits where it is full. A job sees the front of what is inside, waits
+/// where the pipe is empty, and finds it drained once its owner's end is closed.
 pub fn places()
     // .. / accepted 1 +1 / put 3: there is room for two
     ensures refuses_more_than_room { Refuses FirstOwnerLaw write_begun (polls (Filled 3 None) 2) }

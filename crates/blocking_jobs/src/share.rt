@@ -1,5 +1,5 @@
-//! What the owner of a lent handle and its job share beside the pipe: the slot in which the handle comes back, under its lock, and
-//! the mark of a session whose owner is gone.
+//! What the owner of a lent handle and its job share in addition to the pipe. It is the slot in which the handle comes back, under
+//! its lock, and the mark of a session whose owner is gone.
 ghost use Rattle.std.specs.Prelude.{◌≡◌, true, false, OnErr, IfOk};
 ghost use Rattle.futures.specs.Task.{IsArmed, Keeps};
 
@@ -33,7 +33,7 @@ pub struct Returned<T: Drop, X: Drop> {
 }
 
 /// The proof that a handle or a result of this type was left in its slot, or dropped since its owner wants it no more. Only the two calls that
-/// leave it there make it: [`Link::give_back`] and [`put_result`].
+/// leave it there make it: [`SessionShare::give_back`] and [`put_result`].
 #[derive(Drop)]
 pub(crate) struct Given<T> {
     of: PhantomData<T>,
@@ -66,13 +66,13 @@ pub(crate) fn put_result<A: Left<Value: Drop>, R: Wait>(
 
 /// What the owner and the job share.
 #[derive(Drop)]
-pub struct Link<T: Drop, X: Drop> {
+pub struct SessionShare<T: Drop, X: Drop> {
     slot: LockedSlot<AnyOf<Returned<T, X>>>,
     // Whether the owner is gone.
     mark: AtomicBool,
 }
 
-impl<T: Drop, X: Drop> Link<T, X> {
+impl<T: Drop, X: Drop> SessionShare<T, X> {
     /// Whether the mark is set. It takes no lock.
     pub(crate) fn is_marked(&self) -> bool {
         self.mark.load(Ordering::SeqCst)
@@ -98,56 +98,45 @@ impl<T: Drop, X: Drop> Link<T, X> {
 /// Where the owner waits for the handle, and says that it is gone.
 #[derive(Drop)]
 pub struct WayBack<T: Drop, X: Drop, H: Wait + Copy> {
-    link: Arc<Link<T, X>>,
+    share: Arc<SessionShare<T, X>>,
     source: Source,
     // Whether the handle was taken out of its slot.
     is_back: bool,
     rt: H,
 }
 
-/// Both sides of a new link: the owner's, and what the job has of it.
-#[derive(Drop)]
-pub struct Linked<T: Drop, X: Drop, H: Wait + Copy> {
-    /// Where the owner waits for the handle.
-    pub way_back: WayBack<T, X, H>,
-    /// What the job gives it back by.
-    pub link: Arc<Link<T, X>>,
-}
-
-impl<T: Drop, X: Drop, H: Wait + AllocGlobal + Copy> Linked<T, X, H> {
-    /// A new link: no handle came back, and no mark is set. It errs where its memory is refused.
-    pub fn new(rt: H) -> Result<Linked<T, X, H>, AllocError>
-        ensures to_come { IfOk result (λ linked. linked.way_back.is_back ≡ false) }
-    {
-        let link = Arc::new(
-            rt.alloc(),
-            Link {
-                slot: LockedSlot::new(),
-                mark: AtomicBool::new(false),
-            },
-        )?;
-        let theirs = Arc::try_clone(&link)?;
-        let way_back = WayBack {
-            link,
-            source: Source::new(),
-            is_back: false,
-            rt,
-        };
-        Ok(Linked {
-            way_back,
-            link: theirs,
-        })
-    }
+/// A new share: where the owner waits for the handle, and what the job gives it back by. No handle came back, and no mark is set. It errs
+/// where its memory is refused.
+pub fn new_share<T: Drop, X: Drop, H: Wait + AllocGlobal + Copy>(
+    rt: H,
+) -> Result<(WayBack<T, X, H>, Arc<SessionShare<T, X>>), AllocError>
+    ensures to_come { IfOk result (λ both. both.0.is_back ≡ false) }
+{
+    let share = Arc::new(
+        rt.alloc(),
+        SessionShare {
+            slot: LockedSlot::new(),
+            mark: AtomicBool::new(false),
+        },
+    )?;
+    let theirs = Arc::try_clone(&share)?;
+    let way_back = WayBack {
+        share,
+        source: Source::new(),
+        is_back: false,
+        rt,
+    };
+    Ok((way_back, theirs))
 }
 
 impl<T: Drop, X: Drop, H: Wait + Copy> WayBack<T, X, H> {
     /// Sets the mark of the session, which stays set and takes no lock: its owner is gone.
     pub fn mark(&self) {
-        self.link.mark.store(true, Ordering::SeqCst);
+        self.share.mark.store(true, Ordering::SeqCst);
     }
 
     /// Takes the handle out of the slot, or waits there for it. Once it was taken nothing more comes, and a poll waits for good. It isn't
-    /// polled where the job was dropped before it gave the handle back, which a pool does only once the owner is gone: it would ask again
+    /// polled where the job was dropped before it gave the handle back, which a pool does only once the owner is gone. It would ask again
     /// and again.
     pub fn poll(&mut self, cx: &mut Context<'_>) -> Result<Returned<T, X>, Seat<OfSlot>>
         ensures back { IfOk result (λ _. self.new.is_back ≡ true) }
@@ -155,7 +144,7 @@ impl<T: Drop, X: Drop, H: Wait + Copy> WayBack<T, X, H> {
         ensures armed { OnErr result (IsArmed cx.new) }
         ensures kept { Keeps cx.old cx.new }
     {
-        let returned = self.link.slot.await_in(self.rt, &self.source, cx)?;
+        let returned = self.share.slot.await_in(self.rt, &self.source, cx)?;
         self.is_back = true;
         Ok(returned)
     }
