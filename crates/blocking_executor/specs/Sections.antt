@@ -18,7 +18,7 @@ use Rattle.blocking_pool.specs.declared.pool.answer.Waited.TheVariants.{Stay, St
 use Rattle.blocking_pool.specs.declared.pool.token.WorkerPass.{WorkerPass}
 use Rattle.blocking_executor.specs.declared.counts.Counts.{Counts}
 use Rattle.blocking_executor.specs.declared.held.Ended.{Ended}
-use Rattle.blocking_executor.specs.declared.held.Entered.{Entered}
+use Rattle.blocking_executor.specs.declared.held.Added.{Added}
 use Rattle.blocking_executor.specs.declared.held.Ended.TheVariants as ended
 
 -- whether so many workers are more than a limit that stands
@@ -52,7 +52,7 @@ module _ {J : Type 0} where
       (added : Pool J) × pool.Adds asking old client job answer added × Rings added bell new
 
   -- a job is added, and what tells that it entered names its client
-  abbrev pub AddsFor : Asking → Pool J → ℕ → J → Result Entered (Refused J) → Pool J → BellKind → Type 0
+  abbrev pub AddsFor : Asking → Pool J → ℕ → J → Result Added (Refused J) → Pool J → BellKind → Type 0
   AddsFor asking old client job (Ok entered) new bell = Adds asking old client job (Ok entered.number) new bell × (entered.client ≡ client)
   AddsFor asking old client job (Err refused) new bell = Adds asking old client job (Err refused) new bell
 

@@ -3,7 +3,7 @@ ghost use Rattle.std.specs.Prelude.{◌≡◌, ◌<◌, ◌≤◌, ◌+◌, IfEr
 
 use crate::counts::Counts;
 use crate::desk::{Desk, ThreadStarter};
-use crate::held::{Ended, Entered, Held};
+use crate::held::{Added, Ended, Held};
 use crate::lookout::Lookout;
 use crate::runtime::Runtime;
 use blocking_core::pool::{
@@ -46,6 +46,9 @@ impl<J: Job + Send + 'static, H: Runtime + Threads + Send + Sync + 'static> Exec
     /// A pool with no worker yet, and its spawner. The setting is the text of a limit, as of the environment's variable
     /// [`MAX_THREADS_ENV`](blocking_core::limit::MAX_THREADS_ENV); any text will do. None is the limit of 500. No environment is
     /// read here.
+    ///
+    /// The executor's handle isn't given to its jobs. A call that opens a file, sleeps or allocates has a `HostRuntime` as a field of
+    /// its own: the one that `main` was given, which is `Copy`.
     ///
     /// `Memory` where there was none for the shared state, and `NoWorker` where the spawner's thread couldn't be had.
     pub fn new(rt: H, setting: Option<&str>) -> Result<Executor<J, H>, Refusal>
@@ -181,7 +184,7 @@ impl<J: Job, H: Runtime> Executor<J, H> {
     }
 
     /// Adds a job of this share's client, as [`add_for`](Executor::add_for) does.
-    pub fn add(&self, job: J) -> Result<Entered, Refused<J>>
+    pub fn add(&self, job: J) -> Result<Added, Refused<J>>
         ensures refused { IfErr result (λ refused. refused.back ≡ job) }
         ensures client { IfOk result (λ entered. entered.client ≡ self.now.client) }
     {
@@ -189,7 +192,7 @@ impl<J: Job, H: Runtime> Executor<J, H> {
     }
 
     /// Adds a job of a client, as [`Pool::add_for`](blocking_core::pool::Pool::add_for): a refused job is handed back.
-    pub fn add_for(&self, client: u32, job: J) -> Result<Entered, Refused<J>>
+    pub fn add_for(&self, client: u32, job: J) -> Result<Added, Refused<J>>
         ensures refused { IfErr result (λ refused. refused.back ≡ job) }
         ensures client { IfOk result (λ entered. entered.client ≡ client) }
     {

@@ -17,14 +17,14 @@ pub struct Held<J: Job> {
     ghost silent: { pool.counts.bell ≡ Silent },
 }
 
-/// A job that has entered a pool: its number, and the client that it entered for. [`Held::add_for`] alone makes one.
+/// A job that was added to a pool: its number, and the client that it was added for. [`Held::add_for`] alone makes one.
 #[derive(Clone, Copy)]
-pub struct Entered {
+pub struct Added {
     number: JobNo,
     client: u32,
 }
 
-impl Entered {
+impl Added {
     /// The job's number.
     pub fn number(self) -> JobNo
         ensures { result ≡ self.number }
@@ -83,12 +83,12 @@ impl<J: Job> Held<J> {
         client: u32,
         job: J,
         starter: &mut S,
-    ) -> (Result<Entered, Refused<J>>, Bell)
+    ) -> (Result<Added, Refused<J>>, Bell)
         ensures { AddsFor (asked S.Starter starter.old starter.new)
             self.old.pool client job result.0 self.new.pool result.1 }
     {
         match self.pool.add_for(client, job, starter) {
-            Ok(number) => (Ok(Entered { number, client }), self.pool.bell()),
+            Ok(number) => (Ok(Added { number, client }), self.pool.bell()),
             Err(refused) => (Err(refused), self.pool.bell()),
         }
     }

@@ -14,7 +14,7 @@ pub mod task;
 pub use counts::Counts;
 pub use desk::ThreadStarter;
 pub use executor::{Executor, set_client_limit, set_max_blocking_threads};
-pub use held::{Ended, Entered, Held};
+pub use held::{Added, Ended, Held};
 pub use job::CallJob;
 pub use runtime::{Host, Runtime};
 pub use task::{Cancel, Task, unblock, unblock_for};

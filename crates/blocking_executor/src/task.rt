@@ -2,7 +2,7 @@
 ghost use Rattle.std.specs.Prelude.{◌≡◌, true, false, IfErr, IfOk};
 
 use crate::executor::Executor;
-use crate::held::Entered;
+use crate::held::Added;
 use crate::job::CallJob;
 use crate::runtime::Runtime;
 use crate::slot::{AnswerOf, CallShare};
@@ -30,7 +30,7 @@ enum Asked {
 /// whose job was dropped by somebody else stays pending.
 pub struct Task<F: Call<Out: Drop>, H: Wait + Copy> {
     // (who has none has added none)
-    job: Entered,
+    job: Added,
     share: Arc<CallShare<F>>,
     source: Source,
     // What the slot answered to the last poll that waits.
@@ -42,7 +42,7 @@ pub struct Task<F: Call<Out: Drop>, H: Wait + Copy> {
 }
 
 impl<F: Call<Out: Drop>, H: Wait + Copy> Task<F, H> {
-    pub(crate) fn new(rt: H, share: Arc<CallShare<F>>, job: Entered) -> Task<F, H>
+    pub(crate) fn new(rt: H, share: Arc<CallShare<F>>, job: Added) -> Task<F, H>
         ensures fresh { result.is_taken ≡ false }
         ensures job { result.job ≡ job }
     {

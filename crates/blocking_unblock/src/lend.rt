@@ -14,7 +14,7 @@ use crate::spare::Spare;
 use blocking_core::io::Position;
 use blocking_core::pool::{Carries, Job, Refusal, Refused};
 use blocking_core::task::{CallOn, OfSlot, Seat};
-use blocking_executor::{Entered, Executor, Runtime};
+use blocking_executor::{Added, Executor, Runtime};
 use blocking_jobs::{
     ItemJob, OpJob, ReadJob, ResultPlace, ResultSeat, SeekJob, WriteJob, new_share,
 };
@@ -85,7 +85,7 @@ pub(crate) trait Lends<T: Drop, I: Drop, J: Job, H: Runtime> {
 fn enter<K: Drop, J: Job + Carries<K>, H: Runtime>(
     executor: &Executor<J, H>,
     job: K,
-) -> Result<Entered, Refused<K>>
+) -> Result<Added, Refused<K>>
     ensures refused { IfErr result (λ refused. refused.back ≡ job) }
     ensures client { IfOk result (λ entered. entered.client ≡ executor.now.client) }
 {

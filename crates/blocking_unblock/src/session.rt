@@ -15,7 +15,7 @@ use blocking_core::pool::WakeNote;
 use blocking_core::task::{OfSlot, Seat};
 use blocking_core::unblock::{OwnerAnswer, OwnerEnd, SessionKind};
 use blocking_ends::{AnyPlace, DrainEnd, FillEnd, ItemRecvEnd, PeekEnd, SendEnd};
-use blocking_executor::Entered;
+use blocking_executor::Added;
 use blocking_jobs::{MayFail, ReadBack, Returned, SessionStore, Sought, WayBack, WriteBack};
 use futures::task::Context;
 use std::io;
@@ -35,7 +35,7 @@ pub(crate) enum Side<T: Drop, I: Drop, H: Wait + Copy> {
 #[derive(Drop)]
 pub(crate) struct Session<T: Drop, I: Drop, H: Wait + Copy> {
     // (who has none has added none)
-    job: Entered,
+    job: Added,
     side: Side<T, I, H>,
     owner_end: OwnerEnd,
 }
@@ -135,7 +135,7 @@ impl<T: Drop, I: Drop, H: Wait + Copy> Session<T, I, H> {
     ghost use Rattle.blocking_unblock.specs.Owners.{kind_of, crossed, has, BackFrom, SawEndOf, is_back};
     ghost use Rattle.blocking_unblock.specs.Polls.{Drains, Fills, OnEnded, crossed_by};
 
-    pub(crate) fn new(job: Entered, side: Side<T, I, H>) -> Session<T, I, H>
+    pub(crate) fn new(job: Added, side: Side<T, I, H>) -> Session<T, I, H>
         ensures job { result.job ≡ job }
         ensures side { result.side ≡ side }
         ensures open { result.owner_end ≡ Open }
