@@ -21,7 +21,7 @@ GROUPS = {
         " SendEnd RecvEnd DrainEnd FillEnd PeekEnd ItemSendEnd ItemSending WhyUnsent JobSeated SeenShut ItemRecvEnd Closed ToldEnd SeenEnd OwnerWaker"
         " Store CopyStore RingStore RingMemory FlatStore FlatMemory LendingStore LendingMemory pipe::*",
         "pools": "Executor set_max_blocking_threads set_client_limit max_threads DEFAULT_MAX_THREADS MIN_MAX_THREADS MAX_MAX_THREADS MAX_THREADS_ENV"
-        " Counts Runtime Host ThreadStarter Held Ended Entered Job JobNo JobStep WakeNote Starter StartRefused pool::*",
+        " Counts Runtime Host ThreadStarter Held Ended Added Job JobNo JobStep WakeNote Starter StartRefused pool::*",
     },
     "blocking_core": {
         "calls": "task::Call task::CallOn task::Slot task::Slotted task::Looked task::Polled task::Put task::*",
