@@ -27,6 +27,8 @@ mod kinds;
 #[cfg(test)]
 mod leaving;
 #[cfg(test)]
+mod lent;
+#[cfg(test)]
 mod many_writes;
 #[cfg(test)]
 mod places;
