@@ -86,9 +86,14 @@ where
     Ok((seen, block_on(&rt, both.into_inner())?))
 }
 
+// The same, over a pool of its own.
+fn written_and_read<H: Host>(rt: H) -> io::Result<(io::Result<(u64, [u8; 8])>, Sheet)> {
+    write_and_read_sheet(rt, pool(rt)?)
+}
+
 #[test]
 fn what_was_written_and_flushed_is_sought_and_read(rt: HostRuntime) -> Result<(), Fail> {
-    let (seen, back) = write_and_read_sheet(rt, pool(rt)?)?;
+    let (seen, back) = written_and_read(rt)?;
     let (place, bytes) = seen?;
     assert_eq!(rt; place, 0);
     assert_eq!(rt; bytes.as_slice(), "elms....".as_bytes());
@@ -129,9 +134,14 @@ fn close_and_write_sheet<J: Job + Carries<WriteJob<Sheet, H>>, H: Runtime + Rand
     Ok((closed, block_on(&rt, both.into_inner())?))
 }
 
+// The same, over a pool of its own.
+fn closed_and_written<H: Host>(rt: H) -> io::Result<(io::Result<ErrorKind>, Sheet)> {
+    close_and_write_sheet(rt, pool(rt)?)
+}
+
 #[test]
 fn a_close_flushes_and_closes_nothing(rt: HostRuntime) -> Result<(), Fail> {
-    let (closed, back) = close_and_write_sheet(rt, pool(rt)?)?;
+    let (closed, back) = closed_and_written(rt)?;
     let kind = closed?;
     assert!(rt; kind == ErrorKind::Unsupported);
     assert_eq!(rt; back.bytes.as_slice(), "ashyew".as_bytes());
@@ -161,9 +171,14 @@ fn close_a_full_sheet<J: Job + Carries<WriteJob<Sheet, H>>, H: Runtime + RandomS
     close_after_a_fault(&rt, &mut both)
 }
 
+// The same, over a pool of its own.
+fn closed_twice<H: Host>(rt: H) -> io::Result<(ErrorKind, ErrorKind)> {
+    close_a_full_sheet(rt, pool(rt)?)
+}
+
 #[test]
 fn a_close_tells_the_fault_of_its_flush_once(rt: HostRuntime) -> Result<(), Fail> {
-    let (first, second) = close_a_full_sheet(rt, pool(rt)?)?;
+    let (first, second) = closed_twice(rt)?;
     assert!(rt; first == ErrorKind::StorageFull);
     assert!(rt; second == ErrorKind::Unsupported);
     Ok(())
