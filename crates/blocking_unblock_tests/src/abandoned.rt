@@ -3,9 +3,9 @@
 use self::Start::{Inside, InsideAndFails, Queued};
 use crate::calls::Call::{Close, Flush, Handle, Next, Operate, Read, Seek, Write};
 use crate::calls::{Answer, BY, Call, FIRST, Scene, Stage, TO, frees, goes_once};
-use crate::lent::{Lender, root};
+use crate::lent::Lender;
 use crate::places::{Faults, NO_FAULTS};
-use blocking::Host;
+use crate::trials::{Trial, first_wrong_of};
 use futures::test::MockTask;
 use std::io;
 use std::io::ErrorKind;
@@ -180,27 +180,21 @@ fn case_of(number: usize) -> Option<Case> {
 // How many cases there are.
 const CASES: usize = 3 * 5 * 8 * 8;
 
-// The first case that doesn't go as it must: its number, its session, and both calls.
-fn first_wrong<S: Lender>(root: &S) -> io::Result<Option<(usize, Call, Call, Call)>> {
+/// The number of the first case that doesn't go as it must. (it says which calls these are: see `case_of`)
+pub(crate) fn first_wrong<S: Lender>(root: &S) -> io::Result<Option<usize>> {
     for number in 0..CASES {
         let Some(case) = case_of(number) else {
             return Ok(None);
         };
         if !is_right(root, case)? {
-            return Ok(Some((number, case.session, case.first, case.second)));
+            return Ok(Some(number));
         }
     }
     Ok(None)
 }
 
-// The same, over a pool of its own.
-fn first_wrong_of<H: Host>(rt: H) -> io::Result<Option<(usize, Call, Call, Call)>> {
-    let root = root(rt, "1", false)?;
-    first_wrong(&root)
-}
-
 #[test]
 fn each_call_follows_each_other(rt: HostRuntime) -> Result<(), Fail> {
-    assert_eq!(rt; first_wrong_of(rt)?, None);
+    assert_eq!(rt; first_wrong_of(rt, Trial::Calls)?, None);
     Ok(())
 }

@@ -1,9 +1,9 @@
 //! Owners of two clients over one pool, of each of which one job may run.
 use crate::calls::{Answer, BY, Call, Scene, comes_to_rest, new_scene};
 use crate::endless::comes_true;
-use crate::lent::{Lender, root};
+use crate::lent::Lender;
 use crate::places::NO_FAULTS;
-use blocking::Host;
+use crate::trials::{Trial, first_wrong_of};
 use futures::test::MockTask;
 use std::test::Fail;
 use std::time::{Clock, Duration};
@@ -71,8 +71,8 @@ impl<S: Lender> Seeker<S> {
     }
 }
 
-// Of two owners of one client one seeks after the other, and an owner of another client beside them.
-fn is_passed_by<S: Lender, R: Clock>(root: &S, rt: &R) -> io::Result<bool> {
+/// Of two owners of one client one seeks after the other, and an owner of another client beside them.
+pub(crate) fn is_passed_by<S: Lender, R: Clock>(root: &S, rt: &R) -> io::Result<bool> {
     let mut first = Seeker::new(root, 7)?;
     let mut second = Seeker::new(root, 7)?;
     let mut beside = Seeker::new(root, 8)?;
@@ -83,8 +83,8 @@ fn is_passed_by<S: Lender, R: Clock>(root: &S, rt: &R) -> io::Result<bool> {
     Ok(began && went_on && came && comes_to_rest(root))
 }
 
-// An owner is made another client's while its seek is held up: that one stays so, and the next isn't, though its old client is at its limit.
-fn changes_its_client<S: Lender, R: Clock>(root: &S, rt: &R) -> io::Result<bool> {
+/// An owner is made another client's while its seek is held up: that one stays so, and the next isn't, though its old client is at its limit.
+pub(crate) fn changes_its_client<S: Lender, R: Clock>(root: &S, rt: &R) -> io::Result<bool> {
     let mut busy = Seeker::new(root, 7)?;
     let mut changing = Seeker::new(root, 7)?;
     let began = busy.runs() && changing.is_held_up(rt);
@@ -98,26 +98,14 @@ fn changes_its_client<S: Lender, R: Clock>(root: &S, rt: &R) -> io::Result<bool>
     Ok(began && stays && came && next && ended && comes_to_rest(root))
 }
 
-// The first, over a pool of four workers that runs one job of each client.
-fn first_is_right<H: Host>(rt: H) -> io::Result<bool> {
-    let root = root(rt, "4", true)?;
-    is_passed_by(&root, &rt)
-}
-
 #[test]
 fn owner_of_a_client_at_its_limit_is_passed_by(rt: HostRuntime) -> Result<(), Fail> {
-    assert!(rt; first_is_right(rt)?);
+    assert_eq!(rt; first_wrong_of(rt, Trial::PassedBy)?, None);
     Ok(())
-}
-
-// The second, over another.
-fn second_is_right<H: Host>(rt: H) -> io::Result<bool> {
-    let root = root(rt, "4", true)?;
-    changes_its_client(&root, &rt)
 }
 
 #[test]
 fn sessions_that_begin_later_are_the_new_clients(rt: HostRuntime) -> Result<(), Fail> {
-    assert!(rt; second_is_right(rt)?);
+    assert_eq!(rt; first_wrong_of(rt, Trial::ChangedClient)?, None);
     Ok(())
 }

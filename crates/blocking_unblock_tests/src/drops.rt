@@ -5,10 +5,10 @@ use self::Way::{Drops, IntoInner, StopsFirst};
 use crate::calls::Call::{Close, Handle, Next, Operate, Read, Seek, Write};
 use crate::calls::{Answer, Call, Scene, Stage, TO, comes_to_rest, frees, goes_once};
 use crate::endless::comes_true;
-use crate::lent::{Lender, root};
+use crate::lent::Lender;
 use crate::places::{Gate, NO_FAULTS};
+use crate::trials::{Trial, first_wrong_of};
 use crate::writes::woken;
-use blocking::Host;
 use futures::Future;
 use futures::task::Poll;
 use futures::test::MockTask;
@@ -190,8 +190,8 @@ impl<S: Lender> Stage<S> {
     }
 }
 
-// The place of the first row that shows something else, in some way.
-fn first_wrong<S: Lender>(root: &S) -> io::Result<Option<usize>> {
+/// The place of the first row that shows something else, in some way.
+pub(crate) fn first_wrong<S: Lender>(root: &S) -> io::Result<Option<usize>> {
     for (place, row) in ROWS.iter().enumerate() {
         if !Stage::all_leave(root, *row)? {
             return Ok(Some(place));
@@ -200,15 +200,9 @@ fn first_wrong<S: Lender>(root: &S) -> io::Result<Option<usize>> {
     Ok(None)
 }
 
-// The same, over a pool of its own.
-fn first_wrong_leave<H: Host>(rt: H) -> io::Result<Option<usize>> {
-    let root = root(rt, "1", false)?;
-    first_wrong(&root)
-}
-
 #[test]
 fn owners_leave_in_each_standing(rt: HostRuntime) -> Result<(), Fail> {
-    assert_eq!(rt; first_wrong_leave(rt)?, None);
+    assert_eq!(rt; first_wrong_of(rt, Trial::Leaving)?, None);
     Ok(())
 }
 
@@ -328,8 +322,11 @@ fn length_for(lasting: Lasting) -> usize {
     }
 }
 
-// The place of the first point at which such a future isn't dropped as it must be.
-fn first_wrong_point<S: Lender>(root: &S, lasting: Lasting) -> io::Result<Option<usize>> {
+/// The place of the first point at which such a future isn't dropped as it must be.
+pub(crate) fn first_wrong_point<S: Lender>(
+    root: &S,
+    lasting: Lasting,
+) -> io::Result<Option<usize>> {
     for (place, point) in POINTS.iter().enumerate() {
         let stage = Stage::new(root, length_for(lasting), NO_FAULTS)?;
         if !stage.is_dropped_well(root, lasting, *point)? {
@@ -339,16 +336,10 @@ fn first_wrong_point<S: Lender>(root: &S, lasting: Lasting) -> io::Result<Option
     Ok(None)
 }
 
-// The same, over a pool of its own.
-fn first_wrong_of<H: Host>(rt: H, lasting: Lasting) -> io::Result<Option<usize>> {
-    let root = root(rt, "1", false)?;
-    first_wrong_point(&root, lasting)
-}
-
 #[test]
 fn futures_are_dropped_at_each_point(rt: HostRuntime) -> Result<(), Fail> {
     for lasting in [Lasting::Operation, Lasting::ReadToEnd, Lasting::WriteAll] {
-        assert_eq!(rt; first_wrong_of(rt, lasting)?, None);
+        assert_eq!(rt; first_wrong_of(rt, Trial::Dropping(lasting))?, None);
     }
     Ok(())
 }

@@ -39,6 +39,8 @@ mod rows;
 #[cfg(test)]
 mod scene;
 #[cfg(test)]
+mod trials;
+#[cfg(test)]
 mod whole;
 #[cfg(test)]
 mod whole_reads;
