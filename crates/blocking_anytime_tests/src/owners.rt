@@ -1,31 +1,57 @@
 //! From an owner to one that is open, and back; and the handle in its place.
 use crate::handle::Sheet;
-use blocking::{AsyncWriteExt, Executor, Host, Job, Runtime, Unblock, WriteJob, Writer};
+use blocking::{
+    AsyncWrite, AsyncWriteExt, Executor, Host, Job, Runtime, Unblock, WriteJob, Writer,
+};
 use blocking_anytime::{Open, OpenWriter};
+use blocking_core::pool::Carries;
 use futures::Future;
 use futures::executor::block_on;
 use futures::task::{Context, Poll};
+use std::alloc::AllocGlobal;
 use std::io;
+use std::random::RandomSource;
 use std::test::Fail;
 
 fn writer<H: Host>(rt: H) -> io::Result<Writer<Sheet, H>> {
+    let sheet = Sheet::new(rt.alloc(), "....")?;
     let executor: Executor<WriteJob<Sheet, H>, H> = Executor::new(rt, Some("1"))?;
-    Ok(Unblock::new(executor, Sheet::new(rt.alloc(), "....")?))
+    Ok(Unblock::new(executor, sheet))
 }
 
-// Makes an owner open, takes it back, and closes it. Whether it was made open, and what becomes of the closed one.
-fn there_and_back<H: Host>(rt: H) -> io::Result<(bool, bool)> {
-    let Ok(mut open) = Open::from_owner(writer(rt)?) else {
+// Whether a word is written.
+fn writes<A: AsyncWrite, H: Runtime + RandomSource>(rt: &H, open: &mut A) -> io::Result<bool>
+    requires { A.closed open.old → ⊥ }
+{
+    Ok(block_on(rt, open.write_all("oak".as_bytes()))?.is_ok())
+}
+
+// Whether it closes.
+fn closes<A: AsyncWrite, H: Runtime + RandomSource>(rt: &H, owner: &mut A) -> io::Result<bool> {
+    Ok(block_on(rt, owner.close())?.is_ok())
+}
+
+// Makes an owner open, takes it back, and closes it. Whether it was made open, written and closed, and what becomes of the closed one.
+fn there_and_back_in<J: Job + Carries<WriteJob<Sheet, H>>, H: Runtime + RandomSource>(
+    rt: H,
+    owner: Unblock<Sheet, (), J, H>,
+) -> io::Result<(bool, bool)> {
+    let Ok(mut open) = Open::from_owner(owner) else {
         return Ok((false, false));
     };
-    block_on(&rt, open.write_all("oak".as_bytes()))??;
+    let is_written = writes(&rt, &mut open);
     let mut owner = open.into_owner();
-    block_on(&rt, owner.close())??;
-    let made: Result<OpenWriter<Sheet, H>, Writer<Sheet, H>> = Open::try_from(owner);
-    match made {
-        Ok(_) => Ok((true, false)),
-        Err(back) => Ok((true, back.is_closed())),
-    }
+    let is_closed = closes(&rt, &mut owner);
+    let made: Result<Open<Sheet, (), J, H>, Unblock<Sheet, (), J, H>> = Open::try_from(owner);
+    let comes_back = match made {
+        Ok(_) => false,
+        Err(back) => back.is_closed(),
+    };
+    Ok((is_written? && is_closed?, comes_back))
+}
+
+fn there_and_back<H: Host>(rt: H) -> io::Result<(bool, bool)> {
+    there_and_back_in(rt, writer(rt)?)
 }
 
 #[test]
@@ -52,16 +78,25 @@ impl<J: Job, H: Runtime> Future for Look<J, H> {
 }
 
 // The handle is with its owner, then with a job, and comes back: whether it is there, and how often it was flushed.
-fn in_its_place<H: Host>(rt: H) -> io::Result<(bool, bool, u32, bool)> {
-    let executor: Executor<WriteJob<Sheet, H>, H> = Executor::new(rt, Some("1"))?;
-    let mut open: OpenWriter<Sheet, H> = Open::new(executor, Sheet::new(rt.alloc(), "....")?);
+fn in_its_place_of<J: Job + Carries<WriteJob<Sheet, H>>, H: Runtime + RandomSource>(
+    rt: H,
+    mut open: Open<Sheet, (), J, H>,
+) -> io::Result<(bool, bool, u32, bool)> {
     let at_first = open.handle_mut().is_some();
-    block_on(&rt, open.write_all("oak".as_bytes()))??;
+    let is_written = writes(&rt, &mut open);
     let while_lent = open.handle_mut().is_some();
     let mut look = Look { open };
-    let flushes = block_on(&rt, &mut look)?;
+    let flushes = block_on(&rt, &mut look);
     let at_last = look.open.handle_mut().is_some();
-    Ok((at_first, while_lent, flushes, at_last))
+    let is_well = is_written? && at_first;
+    Ok((is_well, while_lent, flushes?, at_last))
+}
+
+fn in_its_place<H: Host>(rt: H) -> io::Result<(bool, bool, u32, bool)> {
+    let sheet = Sheet::new(rt.alloc(), "....")?;
+    let executor: Executor<WriteJob<Sheet, H>, H> = Executor::new(rt, Some("1"))?;
+    let open: OpenWriter<Sheet, H> = Open::new(executor, sheet);
+    in_its_place_of(rt, open)
 }
 
 #[test]

@@ -39,8 +39,10 @@ fn numbered<H: Host>(rt: &H, count: usize) -> io::Result<Vec<u8>> {
 fn copies<H: System>(rt: H, count: usize) -> io::Result<bool> {
     let place = Place::new(rt, "blocking_tokio_copies")?;
     let bytes = numbered(&rt, count)?;
-    let from: Lent<H> = Unblock::new(place.executor()?, place.open("from", &bytes)?);
-    let to: Lent<H> = Unblock::new(place.executor()?, place.create("to")?);
+    let (from, to) = (place.open("from", &bytes)?, place.create("to")?);
+    let (readers, writers) = (place.executor()?, place.executor()?);
+    let from: Lent<H> = Unblock::new(readers, from);
+    let to: Lent<H> = Unblock::new(writers, to);
     let told = copied(&rt, from, to)?;
     Ok(told == count as u64 && place.bytes("to")? == bytes)
 }

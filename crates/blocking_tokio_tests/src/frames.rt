@@ -36,7 +36,8 @@ fn send<B: AsyncWrite + Drop, H: Host>(rt: &H, writer: B, payload: Bytes) -> io:
 fn seen<H: System>(rt: H) -> io::Result<bool> {
     let place = Place::new(rt, "blocking_tokio_frames")?;
     let file = place.open("lines", b"one\ntwo\n")?;
-    let reader: Lent<H> = Unblock::new(place.executor()?, file);
+    let executor = place.executor()?;
+    let reader: Lent<H> = Unblock::new(executor, file);
     let lines = lines_of(&rt, reader)?;
     let mut text = String::new(rt.alloc());
     for line in &lines {
@@ -45,7 +46,8 @@ fn seen<H: System>(rt: H) -> io::Result<bool> {
             text.push('|')?;
         }
     }
-    let writer: Lent<H> = Unblock::new(place.executor()?, place.create("frame")?);
+    let (executor, file) = (place.executor()?, place.create("frame")?);
+    let writer: Lent<H> = Unblock::new(executor, file);
     let is_shut = send(&rt, writer, Bytes::from_static(b"hello"))?;
     let frame = place.bytes("frame")?;
     Ok(text.as_str() == "one|two|" && is_shut && frame.as_slice() == b"\0\0\0\x05hello".as_slice())

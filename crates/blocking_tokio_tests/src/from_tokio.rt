@@ -14,7 +14,8 @@ use tokio::io::{duplex, read_to_end, write_all};
 fn received<H: System>(rt: H) -> io::Result<bool> {
     let place = Place::new(rt, "blocking_tokio_from")?;
     let (near, far) = duplex(rt.alloc(), 3)?;
-    let to: Lent<H> = Unblock::new(place.executor()?, place.create("to")?);
+    let (executor, file) = (place.executor()?, place.create("to")?);
+    let to: Lent<H> = Unblock::new(executor, file);
     let copier = Copier::new(rt.alloc(), FromTokio::new(near), to, 4)?;
     let sending = write_all(far, b"hello".as_slice()).map_ok(|_| ());
     let (copied, sent) = block_on(&rt, join(copier, sending))?;

@@ -40,10 +40,12 @@ fn read_past_the_end<A: AsyncRead + Drop, H: Host>(rt: &H, reader: A) -> io::Res
 
 fn fails_as_told<H: System>(rt: H) -> io::Result<bool> {
     let place = Place::new(rt, "blocking_tokio_shutdown")?;
-    let writer: Lent<H> = Unblock::new(place.executor()?, place.create("to")?);
-    let after = written_after_a_shutdown(&rt, writer)?;
-    let reader: Lent<H> = Unblock::new(place.executor()?, place.open("three", b"abc")?);
-    let past = read_past_the_end(&rt, reader)?;
+    let (to, three) = (place.create("to")?, place.open("three", b"abc")?);
+    let (writers, readers) = (place.executor()?, place.executor()?);
+    let writer: Lent<H> = Unblock::new(writers, to);
+    let after = written_after_a_shutdown(&rt, writer);
+    let reader: Lent<H> = Unblock::new(readers, three);
+    let (after, past) = (after?, read_past_the_end(&rt, reader)?);
     Ok(
         after == Some(ErrorKind::BrokenPipe)
             && past == ErrorKind::UnexpectedEof

@@ -2,10 +2,10 @@
 //! the handle goes once.
 use self::Start::{Inside, InsideAndFails, Queued};
 use crate::calls::Call::{Close, Flush, Handle, Next, Operate, Read, Seek, Write};
-use crate::calls::{Answer, BY, Call, FIRST, Scene, Stage, TO, frees, goes_once, pool, taken_back};
-use crate::places::{Faults, Gated, Jump, NO_FAULTS};
-use blocking::{Executor, Host, ItemJob, OpJob, ReadJob, SeekJob, WriteJob};
-use blocking_core::pool::{Carries, Job};
+use crate::calls::{Answer, BY, Call, FIRST, Scene, Stage, TO, frees, goes_once};
+use crate::lent::Lender;
+use crate::places::{Faults, NO_FAULTS};
+use crate::trials::{Trial, first_wrong_of};
 use futures::test::MockTask;
 use std::io;
 use std::io::ErrorKind;
@@ -118,16 +118,7 @@ impl Case {
     }
 }
 
-impl<J, H> Stage<J, H>
-where
-    J: Job
-        + Carries<ReadJob<Gated, H>>
-        + Carries<WriteJob<Gated, H>>
-        + Carries<ItemJob<Gated, u8, H>>
-        + Carries<SeekJob<Gated, H>>
-        + Carries<OpJob<Jump, Gated, H>>,
-    H: Host,
-{
+impl<S: Lender> Stage<S> {
     // Whether the job of a session comes to stand so.
     fn starts(&mut self, session: Call, start: Start) -> bool {
         match start {
@@ -147,32 +138,22 @@ where
     }
 
     // Whether the handle is where it must be, and goes once.
-    fn ends_well(self, rt: &H, case: Case) -> io::Result<bool> {
+    fn ends_well(self, root: &S, case: Case) -> io::Result<bool> {
         let Stage {
-            pool,
             mock: _,
             scene: Scene { owner, gate },
             busy,
         } = self;
-        let is_there = match (taken_back(rt, owner)?, case.place()) {
+        let is_there = match (owner.taken_back()?, case.place()) {
             (Some(handle), Some(place)) => handle.place() == place,
             (_, place) => place.is_none(),
         };
-        Ok(is_there && frees(busy) && goes_once(&pool, &gate))
+        Ok(is_there && frees(busy) && goes_once(root, &gate))
     }
 }
 
 // Whether a case goes as it must.
-fn is_right<J, H>(rt: H, pool: &Executor<J, H>, case: Case) -> io::Result<bool>
-where
-    J: Job
-        + Carries<ReadJob<Gated, H>>
-        + Carries<WriteJob<Gated, H>>
-        + Carries<ItemJob<Gated, u8, H>>
-        + Carries<SeekJob<Gated, H>>
-        + Carries<OpJob<Jump, Gated, H>>,
-    H: Host,
-{
+fn is_right<S: Lender>(root: &S, case: Case) -> io::Result<bool> {
     let faults = match case.start {
         InsideAndFails => Faults {
             first: Some((0, ErrorKind::Other)),
@@ -180,10 +161,10 @@ where
         },
         Queued | Inside => NO_FAULTS,
     };
-    let later = MockTask::new(&rt)?;
-    let mut stage = Stage::new(rt, pool, 30, faults)?;
+    let later = root.task()?;
+    let mut stage = Stage::new(root, 30, faults)?;
     let answers = stage.answers_well(case, &later);
-    Ok(stage.ends_well(&rt, case)? && answers)
+    Ok(stage.ends_well(root, case)? && answers)
 }
 
 // The case of this number; None beyond the last.
@@ -199,15 +180,14 @@ fn case_of(number: usize) -> Option<Case> {
 // How many cases there are.
 const CASES: usize = 3 * 5 * 8 * 8;
 
-// The first case that doesn't go as it must: its number, its session, and both calls.
-fn first_wrong<H: Host>(rt: H) -> io::Result<Option<(usize, Call, Call, Call)>> {
-    let pool = pool(rt)?;
+/// The number of the first case that doesn't go as it must. (it says which calls these are: see `case_of`)
+pub(crate) fn first_wrong<S: Lender>(root: &S) -> io::Result<Option<usize>> {
     for number in 0..CASES {
         let Some(case) = case_of(number) else {
             return Ok(None);
         };
-        if !is_right(rt, &pool, case)? {
-            return Ok(Some((number, case.session, case.first, case.second)));
+        if !is_right(root, case)? {
+            return Ok(Some(number));
         }
     }
     Ok(None)
@@ -215,6 +195,6 @@ fn first_wrong<H: Host>(rt: H) -> io::Result<Option<(usize, Call, Call, Call)>> 
 
 #[test]
 fn each_call_follows_each_other(rt: HostRuntime) -> Result<(), Fail> {
-    assert_eq!(rt; first_wrong(rt)?, None);
+    assert_eq!(rt; first_wrong_of(rt, Trial::Calls)?, None);
     Ok(())
 }

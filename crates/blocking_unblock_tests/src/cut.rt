@@ -1,5 +1,5 @@
 //! Sessions whose job is dropped beside its owner, which no pool does by itself: a job type of the test's own lets its job go.
-use crate::endless::{Begins, Endless, Pace, Tally, Touch};
+use crate::endless::{Begins, Endless, Held, Pace, Starts, Tally, Touch, hold};
 use crate::reader::Given::{Bytes, Stops as Stop};
 use crate::reader::{Planned, Track};
 use crate::scene::Sight::Waits;
@@ -15,6 +15,7 @@ use futures::task::Poll as Polled;
 use futures::test::MockTask;
 use std::io;
 use std::marker::PhantomData;
+use std::random::RandomSource;
 use std::sync::Arc;
 use std::test::Fail;
 
@@ -114,7 +115,7 @@ fn first_wrong_of_cut<H: Host>(rt: H) -> io::Result<Option<usize>> {
     let Ok(executor) = Executor::<Cut<ReadJob<Planned, H>, Two>, H>::new(rt, Some("1")) else {
         return Err(io::Error::from(io::ErrorKind::Other));
     };
-    first_wrong_in(rt, executor, &CUT)
+    first_wrong_in(executor, &CUT)
 }
 
 #[test]
@@ -156,7 +157,7 @@ fn wakes_its_owner<H: Host>(rt: H) -> io::Result<bool> {
         writes: &[Taken::Stops],
         ..ALL
     };
-    let writer = PlannedWriter::new(rt, Arc::try_clone(&page)?, plan);
+    let writer = PlannedWriter::new(rt, rt.alloc(), Arc::try_clone(&page)?, plan)?;
     let mut mock = MockTask::new(&rt)?;
     let Ok(executor) = Executor::<CutWriter<H>, H>::new(rt, Some("1")) else {
         return Err(io::Error::from(io::ErrorKind::Other));
@@ -172,30 +173,42 @@ fn dropped_writing_job_wakes_its_owner(rt: HostRuntime) -> Result<(), Fail> {
 
 // Whether the owner of a handle, whose job is dropped once that was called, is woken for it, and only once the handle is gone. It waits for the handle
 // in another task than for the call that it was lent for.
+fn is_told_of<O: Starts, H: Runtime + RandomSource>(
+    rt: H,
+    mut owner: O,
+    tally: &Tally,
+) -> io::Result<bool> {
+    let mut mock = MockTask::new(&rt)?;
+    let later = MockTask::new(&rt)?;
+    let _ = owner.begin(&mut mock);
+    if !tally.track.stops() {
+        return Ok(false);
+    }
+    let waits = owner.waits_idle(&later);
+    tally.track.go_on();
+    Ok(waits && woken(&later) && tally.gone() == 1)
+}
+
+// The same in this pool, by the session of a job.
+fn is_told_in<J: Begins<Endless<H>, H>, K: Job + Carries<J>, H: Runtime + RandomSource>(
+    rt: H,
+    pool: &Executor<K, H>,
+) -> io::Result<bool> {
+    let tally = Arc::new(rt.alloc(), Tally::new())?;
+    let handle = Endless::new(rt, &tally, Pace::Stops)?;
+    let owner: Held<Endless<H>, J, K, H> = hold(pool, 4, handle)?;
+    is_told_of(rt, owner, &tally)
+}
+
 fn is_told_last<
     J: Begins<Endless<H>, H> + Send + 'static,
     S: Steps + Drop + Send + 'static,
     H: Host,
 >(rt: H) -> io::Result<bool> {
-    let Ok(executor) = Executor::<Cut<J, S>, H>::new(rt, Some("1")) else {
-        return Err(io::Error::from(io::ErrorKind::Other));
-    };
-    let tally = Arc::new(rt.alloc(), Tally::new())?;
-    let mut mock = MockTask::new(&rt)?;
-    let later = MockTask::new(&rt)?;
-    let handle = Endless {
-        rt,
-        tally: Arc::try_clone(&tally)?,
-        pace: Pace::Stops,
-    };
-    let mut owner = Unblock::<_, u8, Cut<J, S>, H>::with_capacity(4, executor, handle);
-    let _ = J::begin(&mut owner, &mut mock);
-    if !tally.track.stops() || owner.is_closed() {
-        return Ok(false);
+    match Executor::<Cut<J, S>, H>::new(rt, Some("1")) {
+        Ok(pool) => is_told_in::<J, Cut<J, S>, H>(rt, &pool),
+        Err(_) => Err(io::Error::from(io::ErrorKind::Other)),
     }
-    let waits = later.enter(|cx| owner.poll_idle(cx).is_pending());
-    tally.track.go_on();
-    Ok(waits && woken(&later) && tally.gone() == 1)
 }
 
 #[test]

@@ -3,19 +3,13 @@
 use self::Standing::{Closed, Idle, Inside, Over, Parked, Queued, Stopped};
 use self::Way::{Drops, IntoInner, StopsFirst};
 use crate::calls::Call::{Close, Handle, Next, Operate, Read, Seek, Write};
-use crate::calls::{
-    Answer, Call, Owner, Scene, Stage, TO, comes_to_rest, frees, goes_once, pool, taken_back,
-};
+use crate::calls::{Answer, Call, Scene, Stage, TO, comes_to_rest, frees, goes_once};
 use crate::endless::comes_true;
-use crate::places::{Gate, Gated, Jump, NO_FAULTS};
+use crate::lent::Lender;
+use crate::places::{Gate, NO_FAULTS};
+use crate::trials::{Trial, first_wrong_of};
 use crate::writes::woken;
-use blocking::{
-    AsyncRead, AsyncReadExt, AsyncWrite, AsyncWriteExt, Executor, Host, ItemJob, OpJob, ReadJob,
-    Runtime, SeekJob, WriteJob,
-};
-use blocking_core::pool::{Carries, Job};
 use futures::Future;
-use futures::executor::block_on;
 use futures::task::Poll;
 use futures::test::MockTask;
 use std::io;
@@ -40,14 +34,14 @@ enum Standing {
     Over,
 }
 
-// How an owner leaves.
+/// How an owner leaves.
 #[derive(Clone, Copy)]
-enum Way {
-    // It is dropped.
+pub(crate) enum Way {
+    /// It is dropped.
     Drops,
-    // It waits for the handle, where that isn't there, and is dropped.
+    /// It waits for the handle, where that isn't there, and is dropped.
     StopsFirst,
-    // It waits for the handle for good, and that future is dropped.
+    /// It waits for the handle for good, and that future is dropped.
     IntoInner,
 }
 
@@ -117,20 +111,11 @@ const ROWS: &[Row] = &[
     },
 ];
 
-impl<J, H> Stage<J, H>
-where
-    J: Job
-        + Carries<ReadJob<Gated, H>>
-        + Carries<WriteJob<Gated, H>>
-        + Carries<ItemJob<Gated, u8, H>>
-        + Carries<SeekJob<Gated, H>>
-        + Carries<OpJob<Jump, Gated, H>>,
-    H: Host,
-{
+impl<S: Lender> Stage<S> {
     // Whether that job goes on until no job runs any more.
     fn goes_on(&self) -> bool {
         self.scene.gate.open();
-        comes_to_rest(&self.pool)
+        comes_to_rest(&self.scene.owner)
     }
 
     // Whether the job comes to stand so.
@@ -138,7 +123,7 @@ where
         match standing {
             Idle => true,
             Closed => matches!(
-                self.scene.polls(&self.mock, Close),
+                self.scene.owner.polls(&self.mock, Close),
                 Poll::Ready(Answer::Done)
             ),
             Queued => self.keeps_busy() && self.scene.begins(&self.mock, session),
@@ -157,25 +142,20 @@ where
     }
 
     // How many calls are made of the handle of such a job, whose owner leaves in this way; None where all isn't left as it must be.
-    fn leaves(mut self, session: Call, row: Row, way: Way) -> Option<usize> {
+    fn leaves(mut self, root: &S, session: Call, row: Row, way: Way) -> Option<usize> {
         if !self.comes_to(session, row.standing) {
             return None;
         }
-        let Stage {
-            pool,
-            mock,
-            scene,
-            busy,
-        } = self;
+        let Stage { mock, scene, busy } = self;
         let Scene { owner, gate } = scene;
-        leave(owner, &mock, way);
+        owner.leaves(&mock, way);
         // (another thread may be quick where nothing keeps the job)
         let is_as_it_must = match row.standing {
             Parked => true,
             _ => (gate.gone() == 1) == row.is_at_once,
         };
         gate.open();
-        let goes = frees(busy) && goes_once(&pool, &gate);
+        let goes = frees(busy) && goes_once(root, &gate);
         if is_as_it_must && goes {
             Some(gate.calls())
         } else {
@@ -185,14 +165,13 @@ where
 
     // Whether all is left as it must be, with so many calls at least and at most, in each way.
     fn leaves_each_way(
-        rt: H,
-        pool: &Executor<J, H>,
+        root: &S,
         row: Row,
         (session, least, most): (Call, usize, usize),
     ) -> io::Result<bool> {
         for way in [Drops, StopsFirst, IntoInner] {
-            let stage = Stage::new(rt, pool, 1_000, NO_FAULTS)?;
-            match stage.leaves(session, row, way) {
+            let stage = Stage::new(root, 1_000, NO_FAULTS)?;
+            match stage.leaves(root, session, row, way) {
                 Some(calls) if least <= calls && calls <= most => {}
                 _ => return Ok(false),
             }
@@ -201,9 +180,9 @@ where
     }
 
     // The same of each kind of session.
-    fn all_leave(rt: H, pool: &Executor<J, H>, row: Row) -> io::Result<bool> {
+    fn all_leave(root: &S, row: Row) -> io::Result<bool> {
         for session in row.sessions {
-            if !Stage::leaves_each_way(rt, pool, row, *session)? {
+            if !Stage::leaves_each_way(root, row, *session)? {
                 return Ok(false);
             }
         }
@@ -211,63 +190,32 @@ where
     }
 }
 
-// An owner leaves, in this way.
-fn leave<J: Job, H: Host>(mut owner: Owner<J, H>, mock: &MockTask, way: Way) {
-    if owner.is_closed() {
-        return;
-    }
-    match way {
-        Drops => {}
-        StopsFirst => {
-            let _ = mock.enter(|cx| !owner.is_closed() && owner.poll_idle(cx).is_pending());
-        }
-        IntoInner => {
-            let mut taking = owner.into_inner();
-            let _ = mock.poll(&mut taking);
-        }
-    }
-}
-
-// The place of the first row that shows something else, in some way.
-fn first_wrong_of<J, H>(rt: H, pool: &Executor<J, H>) -> io::Result<Option<usize>>
-where
-    J: Job
-        + Carries<ReadJob<Gated, H>>
-        + Carries<WriteJob<Gated, H>>
-        + Carries<ItemJob<Gated, u8, H>>
-        + Carries<SeekJob<Gated, H>>
-        + Carries<OpJob<Jump, Gated, H>>,
-    H: Host,
-{
+/// The place of the first row that shows something else, in some way.
+pub(crate) fn first_wrong<S: Lender>(root: &S) -> io::Result<Option<usize>> {
     for (place, row) in ROWS.iter().enumerate() {
-        if !Stage::all_leave(rt, pool, *row)? {
+        if !Stage::all_leave(root, *row)? {
             return Ok(Some(place));
         }
     }
     Ok(None)
 }
 
-fn first_wrong<H: Host>(rt: H) -> io::Result<Option<usize>> {
-    let pool = pool(rt)?;
-    first_wrong_of(rt, &pool)
-}
-
 #[test]
 fn owners_leave_in_each_standing(rt: HostRuntime) -> Result<(), Fail> {
-    assert_eq!(rt; first_wrong(rt)?, None);
+    assert_eq!(rt; first_wrong_of(rt, Trial::Leaving)?, None);
     Ok(())
 }
 
-// Where a future is dropped.
+/// Where a future is dropped.
 #[derive(Clone, Copy, PartialEq, Eq)]
-enum Point {
-    // Before its first poll.
+pub(crate) enum Point {
+    /// Before its first poll.
     Unpolled,
-    // While its job stands in the queue.
+    /// While its job stands in the queue.
     Waiting,
-    // While its job is inside its first call.
+    /// While its job is inside its first call.
     Running,
-    // When it was woken.
+    /// When it was woken.
     Woken,
 }
 
@@ -278,8 +226,8 @@ const POINTS: [Point; 4] = [
     Point::Woken,
 ];
 
-// Whether a future comes to this point, where it is dropped.
-fn dropped_at<F: Future<Output: Drop> + Drop>(
+/// Whether a future comes to this point, where it is dropped.
+pub(crate) fn dropped_at<F: Future<Output: Drop> + Drop>(
     mut future: F,
     mock: &MockTask,
     gate: &Gate,
@@ -302,68 +250,13 @@ fn dropped_at<F: Future<Output: Drop> + Drop>(
     waits && comes
 }
 
-// A future that borrows its owner.
+/// A future that borrows its owner.
 #[derive(Clone, Copy)]
-enum Lasting {
+pub(crate) enum Lasting {
     Operation,
     ReadToEnd,
-    // (of more bytes than the pipe holds)
+    /// (of more bytes than the pipe holds)
     WriteAll,
-}
-
-// Whether an operation comes to this point, where it is dropped.
-fn drops_operation<J: Job + Carries<OpJob<Jump, Gated, H>>, H: Host>(
-    owner: &mut Owner<J, H>,
-    mock: &MockTask,
-    gate: &Gate,
-    point: Point,
-) -> bool {
-    if owner.is_closed() {
-        return false;
-    }
-    dropped_at(owner.with_mut(Jump { to: TO }), mock, gate, point)
-}
-
-// The same of a read to the end behind `out`.
-fn drops_read<A: AsyncRead>(
-    owner: &mut A,
-    out: &mut Vec<u8>,
-    mock: &MockTask,
-    gate: &Gate,
-    point: Point,
-) -> bool
-    requires { A.closed owner.old → ⊥ }
-{
-    dropped_at(owner.read_to_end(out), mock, gate, point)
-}
-
-// The same of a write of all bytes.
-fn drops_write<A: AsyncWrite>(owner: &mut A, mock: &MockTask, gate: &Gate, point: Point) -> bool
-    requires { A.closed owner.old → ⊥ }
-{
-    dropped_at(owner.write_all(b"abcdefgh"), mock, gate, point)
-}
-
-// Whether a read to the end makes `out` these bytes.
-fn reads_on<A: AsyncRead, H: Host>(
-    rt: &H,
-    owner: &mut A,
-    out: &mut Vec<u8>,
-    bytes: &[u8],
-) -> io::Result<bool>
-    requires { A.closed owner.old → ⊥ }
-{
-    let read = block_on(rt, owner.read_to_end(out))?;
-    Ok(read.is_ok() && out.as_slice() == bytes)
-}
-
-// Whether one more byte is written and flushed.
-fn writes_on<A: AsyncWrite, H: Host>(rt: &H, owner: &mut A) -> io::Result<bool>
-    requires { A.closed owner.old → ⊥ }
-{
-    let written = block_on(rt, owner.write_all(b"z"))?;
-    let flushed = block_on(rt, owner.flush())?;
-    Ok(written.is_ok() && flushed.is_ok())
 }
 
 // Where the handle must be, and what it must have, behind a future that was dropped at this point and what was done after it: an operation is made
@@ -378,68 +271,46 @@ fn left_by_rule(lasting: Lasting, point: Point) -> (u64, &'static [u8]) {
     }
 }
 
-impl<J, H> Stage<J, H>
-where
-    J: Job
-        + Carries<ReadJob<Gated, H>>
-        + Carries<WriteJob<Gated, H>>
-        + Carries<ItemJob<Gated, u8, H>>
-        + Carries<SeekJob<Gated, H>>
-        + Carries<OpJob<Jump, Gated, H>>,
-    H: Host,
-{
+impl<S: Lender> Stage<S> {
     // Whether a future comes to a point and is dropped there, where the handle can't go on before.
     fn drops(&mut self, lasting: Lasting, point: Point, out: &mut Vec<u8>) -> bool {
         let is_busy = point != Point::Waiting || self.keeps_busy();
         self.scene.gate.shut();
-        let owner = &mut self.scene.owner;
         let gate = &*self.scene.gate;
-        if owner.is_closed() || !is_busy {
-            return false;
-        }
-        match lasting {
-            Lasting::Operation => drops_operation(owner, &self.mock, gate, point),
-            Lasting::ReadToEnd => drops_read(owner, out, &self.mock, gate, point),
-            Lasting::WriteAll => drops_write(owner, &self.mock, gate, point),
-        }
+        is_busy
+            && self
+                .scene
+                .owner
+                .drops(&self.mock, gate, lasting, point, out)
     }
 
     // Whether the owner goes on from there as if nothing had happened.
-    fn goes_on_after(&mut self, rt: &H, lasting: Lasting, out: &mut Vec<u8>) -> io::Result<bool> {
+    fn goes_on_after(&mut self, lasting: Lasting, out: &mut Vec<u8>) -> io::Result<bool> {
         self.scene.gate.open();
         self.busy.gate.open();
-        let owner = &mut self.scene.owner;
-        if owner.is_closed() {
-            return Ok(false);
-        }
-        match lasting {
-            Lasting::Operation => Ok(true),
-            Lasting::ReadToEnd => reads_on(rt, owner, out, &[0, 1, 2]),
-            Lasting::WriteAll => writes_on(rt, owner),
-        }
+        self.scene.owner.goes_on(lasting, out)
     }
 
     // Whether in the end the handle is where it must be, with what it must have, and goes once.
-    fn is_left_so(self, rt: &H, place: u64, bytes: &[u8]) -> io::Result<bool> {
+    fn is_left_so(self, root: &S, place: u64, bytes: &[u8]) -> io::Result<bool> {
         let Stage {
-            pool,
             mock: _,
             scene: Scene { owner, gate },
             busy,
         } = self;
-        let is_so = match taken_back(rt, owner)? {
+        let is_so = match owner.taken_back()? {
             Some(handle) => handle.place() == place && handle.bytes() == bytes,
             None => false,
         };
-        Ok(is_so && frees(busy) && goes_once(&pool, &gate))
+        Ok(is_so && frees(busy) && goes_once(root, &gate))
     }
 
-    fn is_dropped_well(mut self, rt: H, lasting: Lasting, point: Point) -> io::Result<bool> {
-        let mut out = Vec::new(rt.alloc());
+    fn is_dropped_well(mut self, root: &S, lasting: Lasting, point: Point) -> io::Result<bool> {
+        let mut out = Vec::new(root.alloc());
         let is_dropped = self.drops(lasting, point, &mut out);
-        let goes_on = self.goes_on_after(&rt, lasting, &mut out)?;
+        let goes_on = self.goes_on_after(lasting, &mut out)?;
         let (place, bytes) = left_by_rule(lasting, point);
-        Ok(self.is_left_so(&rt, place, bytes)? && is_dropped && goes_on)
+        Ok(self.is_left_so(root, place, bytes)? && is_dropped && goes_on)
     }
 }
 
@@ -451,12 +322,14 @@ fn length_for(lasting: Lasting) -> usize {
     }
 }
 
-// The place of the first point at which such a future isn't dropped as it must be.
-fn first_wrong_point<H: Host>(rt: H, lasting: Lasting) -> io::Result<Option<usize>> {
-    let pool = pool(rt)?;
+/// The place of the first point at which such a future isn't dropped as it must be.
+pub(crate) fn first_wrong_point<S: Lender>(
+    root: &S,
+    lasting: Lasting,
+) -> io::Result<Option<usize>> {
     for (place, point) in POINTS.iter().enumerate() {
-        let stage = Stage::new(rt, &pool, length_for(lasting), NO_FAULTS)?;
-        if !stage.is_dropped_well(rt, lasting, *point)? {
+        let stage = Stage::new(root, length_for(lasting), NO_FAULTS)?;
+        if !stage.is_dropped_well(root, lasting, *point)? {
             return Ok(Some(place));
         }
     }
@@ -466,7 +339,7 @@ fn first_wrong_point<H: Host>(rt: H, lasting: Lasting) -> io::Result<Option<usiz
 #[test]
 fn futures_are_dropped_at_each_point(rt: HostRuntime) -> Result<(), Fail> {
     for lasting in [Lasting::Operation, Lasting::ReadToEnd, Lasting::WriteAll] {
-        assert_eq!(rt; first_wrong_point(rt, lasting)?, None);
+        assert_eq!(rt; first_wrong_of(rt, Trial::Dropping(lasting))?, None);
     }
     Ok(())
 }

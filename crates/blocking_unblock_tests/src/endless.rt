@@ -7,8 +7,11 @@ use blocking::{
 use blocking_core::pool::{Carries, Job, JobNo, JobStep};
 use blocking_core::task::CallOn;
 use futures::Stream;
+use futures::executor::block_on;
 use futures::test::MockTask;
 use std::io::{Read, Seek, SeekFrom, Write};
+use std::marker::PhantomData;
+use std::random::RandomSource;
 use std::sync::Arc;
 use std::sync::atomic::{AtomicUsize, Ordering};
 use std::time::{Clock, Duration};
@@ -52,12 +55,18 @@ pub(crate) enum Pace {
 
 /// A handle without an end: a call gives a byte or an item, takes all, or goes where it is asked to.
 pub(crate) struct Endless<R: Clock + Copy> {
-    pub rt: R,
+    rt: R,
     pub tally: Arc<Tally>,
-    pub pace: Pace,
+    pace: Pace,
 }
 
 impl<R: Clock + Copy> Endless<R> {
+    /// One that is counted here.
+    pub(crate) fn new(rt: R, tally: &Arc<Tally>, pace: Pace) -> io::Result<Endless<R>> {
+        let tally = Arc::try_clone(tally)?;
+        Ok(Endless { rt, tally, pace })
+    }
+
     fn call(&self) {
         let _ = self.tally.calls.fetch_add(1, Ordering::SeqCst);
         match self.pace {
@@ -183,10 +192,6 @@ impl<J: Job> Job for Beside<J> {
     }
 }
 
-pub(crate) type Owner<T, J, H> = Unblock<T, u8, Beside<J>, H>;
-
-pub(crate) type Pool<J, H> = Executor<Beside<J>, H>;
-
 /// How a session of this job begins, in a pool of any jobs that carry it: by a poll of its owner. Whether that waits.
 pub(crate) trait Begins<T: Drop, H: Runtime>: Job {
     fn begin<K: Job + Carries<Self>>(owner: &mut Unblock<T, u8, K, H>, mock: &mut MockTask) -> bool;
@@ -267,10 +272,115 @@ pub(crate) fn comes_true<F: Fn() -> bool>(is_so: F) -> bool
     false
 }
 
-/// Whether no job is queued or runs, before long.
-pub(crate) fn rests<J: Job, H: Runtime>(pool: &Pool<J, H>) -> bool {
-    comes_true(|| {
-        let counts = pool.counts();
-        counts.queued == 0 && counts.running == 0
+/// An owner whose sessions begin in one way. It promises nothing: a proof over any of these costs a part of what it costs over an `Unblock` itself.
+pub(crate) trait Starts: Drop {
+    /// Polls for its session. Whether that waits.
+    fn begin(&mut self, mock: &mut MockTask) -> bool;
+
+    /// Whether a poll for the handle waits. (not of an owner that is closed)
+    fn waits_idle(&mut self, mock: &MockTask) -> bool;
+}
+
+/// The same, with the pool that it lends to.
+pub(crate) trait Begun<T>: Starts {
+    /// The owner of another handle, over the same pool. No capacity is the default.
+    fn lend(&self, capacity: usize, handle: T) -> io::Result<Self>;
+
+    /// Whether no job is queued or runs.
+    fn is_at_rest(&self) -> bool;
+
+    /// Adds a call to the pool that is over at once.
+    fn add_call(&self);
+
+    /// Adds one that stops until it is let go on.
+    fn add_stop(&self, track: Arc<Track>);
+
+    /// The handle, once it is back.
+    fn taken_back(self) -> io::Result<Option<T>>;
+}
+
+/// An owner over a pool of jobs `K`, whose sessions are those of `J`.
+#[derive(Drop)]
+pub(crate) struct Held<T: Drop, J: Job, K: Job, H: Runtime> {
+    pool: Executor<K, H>,
+    owner: Unblock<T, u8, K, H>,
+    job: PhantomData<J>,
+}
+
+/// One that is new. No capacity is the default.
+pub(crate) fn hold<T: Drop, J: Job, K: Job, H: Runtime>(
+    pool: &Executor<K, H>,
+    capacity: usize,
+    handle: T,
+) -> io::Result<Held<T, J, K, H>> {
+    let (kept, shared) = (pool.try_clone()?, pool.try_clone()?);
+    Ok(Held {
+        pool: kept,
+        owner: if capacity > 0 {
+            Unblock::with_capacity(capacity, shared, handle)
+        } else {
+            Unblock::new(shared, handle)
+        },
+        job: PhantomData,
     })
+}
+
+impl<T: Drop, J: Begins<T, H>, K: Job + Carries<J>, H: Runtime> Starts for Held<T, J, K, H> {
+    fn begin(&mut self, mock: &mut MockTask) -> bool {
+        J::begin(&mut self.owner, mock)
+    }
+
+    fn waits_idle(&mut self, mock: &MockTask) -> bool {
+        let owner = &mut self.owner;
+        mock.enter(|cx| !owner.is_closed() && owner.poll_idle(cx).is_pending())
+    }
+}
+
+impl<T: Drop, J: Begins<T, H>, H: Runtime + RandomSource> Begun<T> for Held<T, J, Beside<J>, H> {
+    fn lend(&self, capacity: usize, handle: T) -> io::Result<Held<T, J, Beside<J>, H>> {
+        hold(&self.pool, capacity, handle)
+    }
+
+    fn is_at_rest(&self) -> bool {
+        let counts = self.pool.counts();
+        counts.queued == 0 && counts.running == 0
+    }
+
+    fn add_call(&self) {
+        let _ = self.pool.add(Beside::Call);
+    }
+
+    fn add_stop(&self, track: Arc<Track>) {
+        let _ = self.pool.add(Beside::Stop(track));
+    }
+
+    fn taken_back(self) -> io::Result<Option<T>> {
+        let Held {
+            pool,
+            owner,
+            job: _,
+        } = self;
+        if owner.is_closed() {
+            return Ok(None);
+        }
+        Ok(Some(block_on(&pool.runtime(), owner.into_inner())?))
+    }
+}
+
+/// Whether no job is queued or runs in the pool of this owner, before long.
+pub(crate) fn rests<T, S: Begun<T>>(root: &S) -> bool {
+    comes_true(|| root.is_at_rest())
+}
+
+/// The first owner over a pool of so many workers, which lends nothing itself: it makes the others. (by itself: what it sends to a thread may rest
+/// on no bound of a type)
+pub(crate) fn root<T: Drop, J: Job + Send + 'static, H: Host>(
+    rt: H,
+    workers: &str,
+    handle: T,
+) -> io::Result<Held<T, J, Beside<J>, H>> {
+    match Executor::<Beside<J>, H>::new(rt, Some(workers)) {
+        Ok(pool) => hold(&pool, 4, handle),
+        Err(_) => Err(io::Error::from(io::ErrorKind::Other)),
+    }
 }

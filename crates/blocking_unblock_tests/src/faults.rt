@@ -2,15 +2,16 @@
 //! the handle is asked again. What must be seen is counted from the calls by the rules.
 use crate::places::{Faults, Gate, Gated};
 use blocking::{
-    AsyncRead, AsyncReadExt, AsyncSeek, AsyncSeekExt, AsyncWrite, AsyncWriteExt, Executor, Host,
-    IoFault, ReadJob, SeekJob, Unblock, WriteJob,
+    AsyncRead, AsyncReadExt, AsyncSeek, AsyncSeekExt, AsyncWrite, AsyncWriteExt, Executor, IoFault,
+    ReadJob, Runtime, SeekJob, Unblock, WriteJob,
 };
 use blocking_core::io::Fault;
 use blocking_core::pool::{Carries, Job};
 use futures::executor::block_on;
-use std::alloc::AllocError;
+use std::alloc::{AllocError, AllocGlobal, Global};
 use std::io;
 use std::io::{ErrorKind, SeekFrom};
+use std::random::RandomSource;
 use std::sync::Arc;
 use std::test::Fail;
 
@@ -34,16 +35,78 @@ fn of_fault(fault: IoFault) -> Shown {
 
 type Owner<J, H> = Unblock<Gated, (), J, H>;
 
-// An owner of a handle with so many bytes, of which these calls fail, through a pipe for six.
-fn owner<J: Job, H: Host>(
+// An owner, and what it awaits by.
+#[derive(Drop)]
+struct Lent<J: Job, H: Runtime> {
+    rt: H,
+    owner: Owner<J, H>,
+}
+
+// One of a handle with so many bytes, of which these calls fail, through a pipe for six.
+fn new_lent<J: Job, H: Runtime>(
     rt: H,
     pool: &Executor<J, H>,
     length: usize,
     faults: Faults,
-) -> io::Result<Owner<J, H>> {
+) -> io::Result<Lent<J, H>> {
     let gate = Arc::new(rt.alloc(), Gate::new(faults))?;
     let handle = Gated::new(rt.alloc(), gate, length, 1)?;
-    Ok(Unblock::with_capacity(6, pool.try_clone()?, handle))
+    let owner = Unblock::with_capacity(6, pool.try_clone()?, handle);
+    Ok(Lent { rt, owner })
+}
+
+// An owner that is read, sought or written. These promise nothing: a proof over any of them costs a part of what it costs over an `Unblock` itself.
+trait ToRead: Drop {
+    // What one read shows, and the byte that came; none of an owner that is closed.
+    fn read_one(&mut self) -> io::Result<Option<(Shown, u8)>>;
+}
+
+trait ToSeek: Drop {
+    // What one seek by one shows; none of an owner that is closed.
+    fn seek_one(&mut self) -> io::Result<Option<Shown>>;
+}
+
+trait ToWrite: Drop {
+    // Whether bytes are taken, and the first flush behind them shows this, and the second that all is done.
+    fn write_session(&mut self, bytes: &[u8], told: Shown) -> io::Result<bool>;
+
+    // Whether the handle has exactly these bytes.
+    fn holds(self, bytes: &[u8]) -> io::Result<bool>;
+}
+
+impl<J: Job + Carries<ReadJob<Gated, H>>, H: Runtime + RandomSource> ToRead for Lent<J, H> {
+    fn read_one(&mut self) -> io::Result<Option<(Shown, u8)>> {
+        if self.owner.is_closed() {
+            return Ok(None);
+        }
+        Ok(Some(reads(&self.rt, &mut self.owner)?))
+    }
+}
+
+impl<J: Job + Carries<SeekJob<Gated, H>>, H: Runtime + RandomSource> ToSeek for Lent<J, H> {
+    fn seek_one(&mut self) -> io::Result<Option<Shown>> {
+        if self.owner.is_closed() {
+            return Ok(None);
+        }
+        Ok(Some(seeks(&self.rt, &mut self.owner)?))
+    }
+}
+
+impl<J: Job + Carries<WriteJob<Gated, H>>, H: Runtime + RandomSource> ToWrite for Lent<J, H> {
+    fn write_session(&mut self, bytes: &[u8], told: Shown) -> io::Result<bool> {
+        if self.owner.is_closed() {
+            return Ok(false);
+        }
+        is_session(&self.rt, &mut self.owner, bytes, told)
+    }
+
+    fn holds(self, bytes: &[u8]) -> io::Result<bool> {
+        let Lent { rt, owner } = self;
+        if owner.is_closed() {
+            return Ok(false);
+        }
+        Ok(block_on(&rt, owner.into_inner())?.bytes() == bytes)
+    }
 }
 
 // How many bytes there are to read.
@@ -53,7 +116,7 @@ const BYTES: usize = 3;
 const CALLS: usize = BYTES + 2;
 
 // What one read shows, and the byte that came.
-fn reads<A: AsyncRead, H: Host>(rt: &H, owner: &mut A) -> io::Result<(Shown, u8)>
+fn reads<A: AsyncRead, H: Runtime + RandomSource>(rt: &H, owner: &mut A) -> io::Result<(Shown, u8)>
     requires { A.closed owner.old → ⊥ }
 {
     let mut one = [0u8; 1];
@@ -74,19 +137,11 @@ fn read_by_rule(faults: Faults, call: usize, came: usize) -> (Shown, u8) {
 }
 
 // The first read that shows something else than it must; none where all do, to the end and once more.
-fn first_wrong_read<J: Job + Carries<ReadJob<Gated, H>>, H: Host>(
-    rt: H,
-    pool: &Executor<J, H>,
-    faults: Faults,
-) -> io::Result<Option<usize>> {
-    let mut owner = owner(rt, pool, BYTES, faults)?;
+fn first_wrong_read<S: ToRead>(mut owner: S, faults: Faults) -> io::Result<Option<usize>> {
     let mut came = 0usize;
     for call in 0..CALLS + 2 {
-        if owner.is_closed() {
-            return Ok(Some(call));
-        }
         let wanted = read_by_rule(faults, call, came);
-        if reads(&rt, &mut owner)? != wanted {
+        if owner.read_one()? != Some(wanted) {
             return Ok(Some(call));
         }
         if wanted.0 == Shown::Count(1) {
@@ -97,7 +152,7 @@ fn first_wrong_read<J: Job + Carries<ReadJob<Gated, H>>, H: Host>(
 }
 
 // What one seek by one shows.
-fn seeks<A: AsyncSeek, H: Host>(rt: &H, owner: &mut A) -> io::Result<Shown>
+fn seeks<A: AsyncSeek, H: Runtime + RandomSource>(rt: &H, owner: &mut A) -> io::Result<Shown>
     requires { A.closed owner.old → ⊥ }
 {
     Ok(match block_on(rt, owner.seek(SeekFrom::Current(1)))? {
@@ -107,22 +162,14 @@ fn seeks<A: AsyncSeek, H: Host>(rt: &H, owner: &mut A) -> io::Result<Shown>
 }
 
 // The first seek that shows something else than it must: a fault leaves the handle where it is.
-fn first_wrong_seek<J: Job + Carries<SeekJob<Gated, H>>, H: Host>(
-    rt: H,
-    pool: &Executor<J, H>,
-    faults: Faults,
-) -> io::Result<Option<usize>> {
-    let mut owner = owner(rt, pool, 0, faults)?;
+fn first_wrong_seek<S: ToSeek>(mut owner: S, faults: Faults) -> io::Result<Option<usize>> {
     let mut place = 0u64;
     for call in 0..CALLS + 2 {
-        if owner.is_closed() {
-            return Ok(Some(call));
-        }
         let wanted = match faults.of(call) {
             Some(kind) => Shown::Failed(kind),
             None => Shown::Count(place.saturating_add(1)),
         };
-        if seeks(&rt, &mut owner)? != wanted {
+        if owner.seek_one()? != Some(wanted) {
             return Ok(Some(call));
         }
         if let Shown::Count(there) = wanted {
@@ -173,7 +220,11 @@ const SESSIONS: &[&[u8]] = &[b"abcd", b"ef", b"g"];
 const WRITES: usize = 4 + 1 + 2 + 1 + 1 + 1;
 
 // What one write shows.
-fn writes<A: AsyncWrite, H: Host>(rt: &H, owner: &mut A, bytes: &[u8]) -> io::Result<Shown>
+fn writes<A: AsyncWrite, H: Runtime + RandomSource>(
+    rt: &H,
+    owner: &mut A,
+    bytes: &[u8],
+) -> io::Result<Shown>
     requires { A.closed owner.old → ⊥ }
 {
     Ok(match block_on(rt, owner.write(bytes))? {
@@ -183,7 +234,7 @@ fn writes<A: AsyncWrite, H: Host>(rt: &H, owner: &mut A, bytes: &[u8]) -> io::Re
 }
 
 // What one flush shows.
-fn flushes<A: AsyncWrite, H: Host>(rt: &H, owner: &mut A) -> io::Result<Shown> {
+fn flushes<A: AsyncWrite, H: Runtime + RandomSource>(rt: &H, owner: &mut A) -> io::Result<Shown> {
     Ok(match block_on(rt, owner.flush())? {
         Ok(()) => Shown::Count(0),
         Err(why) => of_fault(why),
@@ -191,7 +242,7 @@ fn flushes<A: AsyncWrite, H: Host>(rt: &H, owner: &mut A) -> io::Result<Shown> {
 }
 
 // Whether bytes are taken, and the first flush behind them shows this, and the second that all is done.
-fn is_session<A: AsyncWrite, H: Host>(
+fn is_session<A: AsyncWrite, H: Runtime + RandomSource>(
     rt: &H,
     owner: &mut A,
     bytes: &[u8],
@@ -205,34 +256,24 @@ fn is_session<A: AsyncWrite, H: Host>(
     Ok(taken == Shown::Count(bytes.len() as u64) && first == told && second == Shown::Count(0))
 }
 
-// Whether the handle has exactly these bytes.
-fn holds<J: Job, H: Host>(rt: &H, owner: Owner<J, H>, bytes: &[u8]) -> io::Result<bool> {
-    if owner.is_closed() {
-        return Ok(false);
-    }
-    let handle = block_on(rt, owner.into_inner())?;
-    Ok(handle.bytes() == bytes)
-}
-
 // The first session that shows something else than it must; their number where the writer has other bytes.
-fn first_wrong_write<J: Job + Carries<WriteJob<Gated, H>>, H: Host>(
-    rt: H,
-    pool: &Executor<J, H>,
+fn first_wrong_write<S: ToWrite>(
+    alloc: Global,
+    mut owner: S,
     faults: Faults,
 ) -> io::Result<Option<usize>> {
     let mut by_rule = ByRule {
         faults,
         calls: 0,
-        taken: Vec::new(rt.alloc()),
+        taken: Vec::new(alloc),
     };
-    let mut owner = owner(rt, pool, 0, faults)?;
     for (place, bytes) in SESSIONS.iter().enumerate() {
         let told = by_rule.session(bytes)?;
-        if owner.is_closed() || !is_session(&rt, &mut owner, bytes, told)? {
+        if !owner.write_session(bytes, told)? {
             return Ok(Some(place));
         }
     }
-    Ok(match holds(&rt, owner, &by_rule.taken)? {
+    Ok(match owner.holds(&by_rule.taken)? {
         true => None,
         false => Some(SESSIONS.len()),
     })
@@ -273,26 +314,55 @@ fn first_of_all<F: Fn(Faults) -> io::Result<Option<usize>>>(
     Ok(None)
 }
 
+// The first faults that reads show otherwise than they must, of all in turn.
+fn wrong_reads<J, H>(rt: H, pool: &Executor<J, H>) -> io::Result<Option<(usize, usize, usize)>>
+where
+    J: Job + Carries<ReadJob<Gated, H>>,
+    H: Runtime + RandomSource,
+{
+    first_of_all(CALLS, |faults| {
+        first_wrong_read(new_lent(rt, pool, BYTES, faults)?, faults)
+    })
+}
+
+fn wrong_seeks<J, H>(rt: H, pool: &Executor<J, H>) -> io::Result<Option<(usize, usize, usize)>>
+where
+    J: Job + Carries<SeekJob<Gated, H>>,
+    H: Runtime + RandomSource,
+{
+    first_of_all(
+        CALLS,
+        |faults| first_wrong_seek(new_lent(rt, pool, 0, faults)?, faults),
+    )
+}
+
+fn wrong_writes<J, H>(rt: H, pool: &Executor<J, H>) -> io::Result<Option<(usize, usize, usize)>>
+where
+    J: Job + Carries<WriteJob<Gated, H>>,
+    H: Runtime + RandomSource,
+{
+    first_of_all(WRITES, |faults| {
+        first_wrong_write(rt.alloc(), new_lent(rt, pool, 0, faults)?, faults)
+    })
+}
+
 #[test]
 fn faults_of_reads_are_told(rt: HostRuntime) -> Result<(), Fail> {
     let pool = Executor::<ReadJob<Gated, _>, _>::new(rt, Some("1"))?;
-    let wrong = first_of_all(CALLS, |faults| first_wrong_read(rt, &pool, faults))?;
-    assert_eq!(rt; wrong, None);
+    assert_eq!(rt; wrong_reads(rt, &pool)?, None);
     Ok(())
 }
 
 #[test]
 fn faults_of_seeks_are_told(rt: HostRuntime) -> Result<(), Fail> {
     let pool = Executor::<SeekJob<Gated, _>, _>::new(rt, Some("1"))?;
-    let wrong = first_of_all(CALLS, |faults| first_wrong_seek(rt, &pool, faults))?;
-    assert_eq!(rt; wrong, None);
+    assert_eq!(rt; wrong_seeks(rt, &pool)?, None);
     Ok(())
 }
 
 #[test]
 fn faults_of_writes_are_told(rt: HostRuntime) -> Result<(), Fail> {
     let pool = Executor::<WriteJob<Gated, _>, _>::new(rt, Some("1"))?;
-    let wrong = first_of_all(WRITES, |faults| first_wrong_write(rt, &pool, faults))?;
-    assert_eq!(rt; wrong, None);
+    assert_eq!(rt; wrong_writes(rt, &pool)?, None);
     Ok(())
 }

@@ -131,26 +131,32 @@ fn no_items_are_the_end(rt: HostRuntime) -> Result<(), Fail> {
     Ok(())
 }
 
-// What one poll for an item shows; a poll of a closed owner shows that it waits.
-fn polled<J: Job + Carries<ItemJob<Numbers, u64, H>>, H: Runtime>(
-    owner: &mut Owner<J, H>,
-    mock: &mut MockTask,
-) -> Poll<Option<Result<u64, Refusal>>> {
-    mock.enter(|cx| {
-        if owner.is_closed() {
+// The owner of such numbers. It promises nothing: a proof over any of these costs a part of what it costs over an `Unblock` itself.
+trait Gives: Drop {
+    // What one poll for an item shows; a poll of a closed owner shows that it waits.
+    fn poll_item(&mut self, mock: &MockTask) -> Poll<Option<Result<u64, Refusal>>>;
+
+    // Whether the owner has this text.
+    fn says(&self, alloc: Global, text: &str) -> io::Result<bool>;
+}
+
+impl<J: Job + Carries<ItemJob<Numbers, u64, H>>, H: Runtime> Gives for Owner<J, H> {
+    fn poll_item(&mut self, mock: &MockTask) -> Poll<Option<Result<u64, Refusal>>> {
+        if self.is_closed() {
             return Poll::Pending;
         }
-        owner.poll_next(cx)
-    })
+        mock.enter(|cx| self.poll_next(cx))
+    }
+
+    fn says(&self, alloc: Global, text: &str) -> io::Result<bool> {
+        Ok(format!(in alloc; "{self:?}")?.as_str() == text)
+    }
 }
 
 // The next item, once it comes; none before long, or at the end.
-fn next<J: Job + Carries<ItemJob<Numbers, u64, H>>, H: Runtime>(
-    owner: &mut Owner<J, H>,
-    mock: &mut MockTask,
-) -> Option<Result<u64, Refusal>> {
+fn next<S: Gives>(owner: &mut S, mock: &MockTask) -> Option<Result<u64, Refusal>> {
     for _ in 0..LOOKS {
-        if let Poll::Ready(item) = polled(owner, mock) {
+        if let Poll::Ready(item) = owner.poll_item(mock) {
             return item;
         }
         thread::yield_now();
@@ -172,28 +178,26 @@ fn comes_to(counter: &AtomicUsize, number: usize) -> bool {
     counter.load(Ordering::SeqCst) == number
 }
 
+// Whether two items are out at most, of an owner at capacity one.
+fn are_two_out<S: Gives>(mut owner: S, mock: &MockTask, asked: &AtomicUsize) -> bool {
+    let received = usize::from(owner.poll_item(mock).is_ready());
+    comes_to(asked, 2 + received)
+}
+
+fn two_are_out<H: Host>(rt: H) -> io::Result<bool> {
+    let asked = counter(rt)?;
+    let mock = MockTask::new(&rt)?;
+    Ok(are_two_out(owner(rt, 1, 3, &asked)?, &mock, &asked))
+}
+
 #[test]
 fn at_capacity_one_two_items_are_out_at_most(rt: HostRuntime) -> Result<(), Fail> {
-    let asked = counter(rt)?;
-    let mut mock = MockTask::new(&rt)?;
-    let mut owner = owner(rt, 1, 3, &asked)?;
-    let received = usize::from(polled(&mut owner, &mut mock).is_ready());
-    let are_two = comes_to(&asked, 2 + received);
-    drop(owner);
-    assert!(rt; are_two);
+    assert!(rt; two_are_out(rt)?);
     Ok(())
 }
 
-// Whether the owner has this text.
-fn says<J: Job, H: Runtime>(alloc: Global, owner: &Owner<J, H>, text: &str) -> io::Result<bool> {
-    Ok(format!(in alloc; "{owner:?}")?.as_str() == text)
-}
-
 // Whether three items come in order, and then the end.
-fn gives_three<J: Job + Carries<ItemJob<Numbers, u64, H>>, H: Runtime>(
-    owner: &mut Owner<J, H>,
-    mock: &mut MockTask,
-) -> bool {
+fn gives_three<S: Gives>(owner: &mut S, mock: &MockTask) -> bool {
     for item in 0..3 {
         if next(owner, mock) != Some(Ok(item)) {
             return false;
@@ -202,35 +206,73 @@ fn gives_three<J: Job + Carries<ItemJob<Numbers, u64, H>>, H: Runtime>(
     next(owner, mock).is_none()
 }
 
+// What comes of three numbers, and behind their end.
+#[derive(Drop)]
+struct Asked {
+    gives_three: bool,
+    // How often the iterator was asked for that.
+    asked_first: usize,
+    // Whether it is there then.
+    is_there: io::Result<bool>,
+    // What comes next.
+    again: Option<Result<u64, Refusal>>,
+}
+
+fn ask_again<S: Gives>(alloc: Global, mut owner: S, mock: &MockTask, asked: &AtomicUsize) -> Asked {
+    let gives_three = gives_three(&mut owner, mock);
+    let asked_first = asked.load(Ordering::SeqCst);
+    let is_there = owner.says(alloc, "Unblock { io: from 3 }");
+    let again = next(&mut owner, mock);
+    Asked {
+        gives_three,
+        asked_first,
+        is_there,
+        again,
+    }
+}
+
+// The same, and how often the iterator was asked in the end.
+fn asked_again<H: Host>(rt: H) -> io::Result<(Asked, usize)> {
+    let asked = counter(rt)?;
+    let mock = MockTask::new(&rt)?;
+    let seen = ask_again(rt.alloc(), owner(rt, 1, 3, &asked)?, &mock, &asked);
+    Ok((seen, asked.load(Ordering::SeqCst)))
+}
+
 #[test]
 fn iterator_is_asked_again_after_its_end(rt: HostRuntime) -> Result<(), Fail> {
-    let asked = counter(rt)?;
-    let mut mock = MockTask::new(&rt)?;
-    let mut owner = owner(rt, 1, 3, &asked)?;
-    let gives_three = gives_three(&mut owner, &mut mock);
-    let asked_first = asked.load(Ordering::SeqCst);
-    let is_there = says(rt.alloc(), &owner, "Unblock { io: from 3 }");
-    let again = next(&mut owner, &mut mock);
-    drop(owner);
-    assert!(rt; gives_three);
-    assert_eq!(rt; asked_first, 4);
-    assert!(rt; is_there?);
-    assert_eq!(rt; again, None);
-    assert_eq!(rt; asked.load(Ordering::SeqCst), 5);
+    let (seen, asked) = asked_again(rt)?;
+    assert!(rt; seen.gives_three);
+    assert_eq!(rt; seen.asked_first, 4);
+    assert!(rt; seen.is_there?);
+    assert_eq!(rt; seen.again, None);
+    assert_eq!(rt; asked, 5);
     Ok(())
 }
 
-// (no pipe holds so many items)
+// What a stream answers that is refused, and whether the iterator is back.
+fn refused_of<S: Gives>(
+    alloc: Global,
+    mut owner: S,
+    mock: &MockTask,
+) -> (Option<Result<u64, Refusal>>, io::Result<bool>) {
+    let came = next(&mut owner, mock);
+    (came, owner.says(alloc, "Unblock { io: from 0 }"))
+}
+
+// The same, and how often the iterator was asked. (no pipe holds so many items)
+fn refused<H: Host>(rt: H) -> io::Result<(Option<Result<u64, Refusal>>, bool, usize)> {
+    let asked = counter(rt)?;
+    let mock = MockTask::new(&rt)?;
+    let (came, is_back) = refused_of(rt.alloc(), owner(rt, usize::MAX, 3, &asked)?, &mock);
+    Ok((came, is_back?, asked.load(Ordering::SeqCst)))
+}
+
 #[test]
 fn stream_that_is_refused_says_why(rt: HostRuntime) -> Result<(), Fail> {
-    let asked = counter(rt)?;
-    let mut mock = MockTask::new(&rt)?;
-    let mut owner = owner(rt, usize::MAX, 3, &asked)?;
-    let came = next(&mut owner, &mut mock);
-    let is_back = says(rt.alloc(), &owner, "Unblock { io: from 0 }");
-    drop(owner);
+    let (came, is_back, asked) = refused(rt)?;
     assert_eq!(rt; came, Some(Err(Refusal::Memory)));
-    assert!(rt; is_back?);
-    assert_eq!(rt; asked.load(Ordering::SeqCst), 0);
+    assert!(rt; is_back);
+    assert_eq!(rt; asked, 0);
     Ok(())
 }

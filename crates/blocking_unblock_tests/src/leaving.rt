@@ -1,17 +1,19 @@
 //! Owners that leave their sessions: what they lent is free at once, and no more is read for them than was under way.
-use crate::endless::{Begins, Beside, Endless, Owner, Pace, Pool, Tally, Touch, comes_true, rests};
+use crate::endless::{
+    Begins, Begun, Beside, Endless, Held, Pace, Starts, Tally, Touch, comes_true, hold, rests, root,
+};
 use crate::reader::{Planned, Track};
-use blocking::{Executor, Host, ItemJob, OpJob, ReadJob, SeekJob, Unblock, WriteJob};
+use blocking::{Executor, Host, ItemJob, OpJob, ReadJob, Runtime, SeekJob, WriteJob};
 use blocking_core::pool::{Carries, Job, JobNo, JobStep};
-use futures::executor::block_on;
 use futures::test::MockTask;
 use std::alloc::Global;
 use std::hint::spin_loop;
 use std::io::Write;
+use std::random::RandomSource;
 use std::sync::atomic::{AtomicUsize, Ordering};
 use std::sync::{Arc, Mutex, Wait};
 use std::test::Fail;
-use std::time::{Duration, Instant};
+use std::time::{Clock, Duration, Instant};
 use std::{io, thread};
 
 // How many owners leave at once.
@@ -21,40 +23,44 @@ const OWNERS: usize = 300;
 const CALLS: usize = 100;
 
 // How many handles are still there once the calls were made.
-fn left_beside_calls<J: Job, H: Host>(rt: H, pool: &Pool<J, H>, tally: &Tally) -> usize {
+fn left_beside_calls<T, S: Begun<T>, R: Clock>(rt: &R, root: &S, tally: &Tally) -> usize {
     for _ in 0..CALLS {
         if tally.gone() >= OWNERS {
             return 0;
         }
-        let _ = pool.add(Beside::Call);
-        thread::sleep(&rt, Duration::from_millis(20));
+        root.add_call();
+        thread::sleep(rt, Duration::from_millis(20));
     }
     OWNERS.saturating_sub(tally.gone())
 }
 
 // Many owners, whose jobs all wait, leave at once. How many handles are left, or none where the jobs don't come to wait.
-fn left_of<J: Begins<Endless<H>, H>, H: Host>(
+fn left_of<S: Begun<Endless<H>>, H: Runtime + RandomSource>(
     rt: H,
-    pool: &Pool<J, H>,
+    root: &S,
 ) -> io::Result<Option<usize>> {
     let tally = Arc::new(rt.alloc(), Tally::new())?;
     let mut mock = MockTask::new(&rt)?;
     let mut owners = Vec::with_capacity(rt.alloc(), OWNERS)?;
     for _ in 0..OWNERS {
-        let handle = Endless {
-            rt,
-            tally: Arc::try_clone(&tally)?,
-            pace: Pace::AtOnce,
-        };
-        let mut owner = Unblock::with_capacity(4, pool.try_clone()?, handle);
-        let _ = J::begin(&mut owner, &mut mock);
+        let mut owner = root.lend(4, Endless::new(rt, &tally, Pace::AtOnce)?)?;
+        let _ = owner.begin(&mut mock);
         owners.push(owner)?;
     }
-    if !rests(pool) {
+    if !rests(root) {
         return Ok(None);
     }
     drop(owners);
-    Ok(Some(left_beside_calls(rt, pool, &tally)))
+    Ok(Some(left_beside_calls(&rt, root, &tally)))
+}
+
+// The first owner over a pool of so many workers, for sessions of endless handles.
+fn root_of<J: Job + Send + 'static, H: Host>(
+    rt: H,
+    workers: &str,
+) -> io::Result<Held<Endless<H>, J, Beside<J>, H>> {
+    let tally = Arc::new(rt.alloc(), Tally::new())?;
+    root(rt, workers, Endless::new(rt, &tally, Pace::AtOnce)?)
 }
 
 // Whether all handles of many owners go, at this limit.
@@ -62,10 +68,8 @@ fn all_go<J: Begins<Endless<H>, H> + Send + 'static, H: Host>(
     rt: H,
     limit: &str,
 ) -> io::Result<Option<usize>> {
-    let Ok(pool) = Pool::<J, H>::new(rt, Some(limit)) else {
-        return Ok(None);
-    };
-    left_of::<J, H>(rt, &pool)
+    let root = root_of::<J, H>(rt, limit)?;
+    left_of(rt, &root)
 }
 
 #[test]
@@ -79,21 +83,14 @@ fn parked_sessions_go_with_their_owners(rt: HostRuntime) -> Result<(), Fail> {
 }
 
 // How many calls of a handle are made after its owner is gone, where each lasts 10 ms; none where they don't come.
-fn calls_after<J: Begins<Endless<H>, H> + Send + 'static, H: Host>(
+fn calls_after_of<S: Begun<Endless<H>>, H: Runtime + RandomSource>(
     rt: H,
+    root: &S,
 ) -> io::Result<Option<usize>> {
-    let Ok(pool) = Pool::<J, H>::new(rt, Some("1")) else {
-        return Ok(None);
-    };
     let tally = Arc::new(rt.alloc(), Tally::new())?;
     let mut mock = MockTask::new(&rt)?;
-    let handle = Endless {
-        rt,
-        tally: Arc::try_clone(&tally)?,
-        pace: Pace::Slow,
-    };
-    let mut owner = Unblock::new(pool.try_clone()?, handle);
-    let _ = J::begin(&mut owner, &mut mock);
+    let mut owner = root.lend(0, Endless::new(rt, &tally, Pace::Slow)?)?;
+    let _ = owner.begin(&mut mock);
     if !comes_true(|| tally.calls() >= 3) {
         return Ok(None);
     }
@@ -103,6 +100,13 @@ fn calls_after<J: Begins<Endless<H>, H> + Send + 'static, H: Host>(
         return Ok(None);
     }
     Ok(Some(tally.calls().saturating_sub(before)))
+}
+
+fn calls_after<J: Begins<Endless<H>, H> + Send + 'static, H: Host>(
+    rt: H,
+) -> io::Result<Option<usize>> {
+    let root = root_of::<J, H>(rt, "1")?;
+    calls_after_of(rt, &root)
 }
 
 #[test]
@@ -190,52 +194,49 @@ enum Leaves {
     Queued,
 }
 
-// A pool of one worker. (by itself: what it sends to a thread may rest on no bound of a type)
-fn one_worker<J: Job + Send + 'static, H: Host>(rt: H) -> io::Result<Pool<J, H>> {
-    match Pool::new(rt, Some("1")) {
-        Ok(pool) => Ok(pool),
-        Err(_) => Err(io::Error::from(io::ErrorKind::Other)),
+impl<R: Wait + Copy> Late<R> {
+    // One that is seen here, and stops at its first write, where it is to.
+    fn new(rt: R, alloc: Global, flushed: &Arc<Flushed>, is_to_stop: bool) -> io::Result<Late<R>> {
+        Ok(Late {
+            rt,
+            flushed: Arc::try_clone(flushed)?,
+            kept: Vec::new(alloc),
+            is_to_stop,
+        })
     }
 }
 
-// The pool of a writer, what is seen of it, and a call that may stand before it.
+// What is seen of a writer, and a call that may stand before it.
 #[derive(Drop)]
-struct Desk<H: Host>
-where
-    Beside<WriteJob<Late<H>, H>>: Job,
-{
-    pool: Pool<WriteJob<Late<H>, H>, H>,
+struct Desk {
     flushed: Arc<Flushed>,
     call: Arc<Track>,
 }
 
-impl<H: Host> Desk<H>
-where
-    Beside<WriteJob<Late<H>, H>>: Job,
-{
-    fn new(rt: H, pool: Pool<WriteJob<Late<H>, H>, H>) -> io::Result<Desk<H>> {
+impl Desk {
+    fn new(alloc: Global) -> io::Result<Desk> {
         Ok(Desk {
-            pool,
-            flushed: Arc::new(rt.alloc(), Flushed::new(rt.alloc()))?,
-            call: Arc::new(rt.alloc(), Track::new())?,
+            flushed: Arc::new(alloc, Flushed::new(alloc))?,
+            call: Arc::new(alloc, Track::new())?,
         })
     }
 
     // An owner who has written four bytes, and whose job is there.
-    fn owner(&self, rt: H, leaves: Leaves) -> io::Result<Owner<Late<H>, WriteJob<Late<H>, H>, H>> {
-        let writer = Late {
-            rt,
-            flushed: Arc::try_clone(&self.flushed)?,
-            kept: Vec::new(rt.alloc()),
-            is_to_stop: matches!(leaves, Leaves::Running),
-        };
+    fn owner<S: Begun<Late<H>>, H: Runtime + RandomSource>(
+        &self,
+        rt: H,
+        root: &S,
+        leaves: Leaves,
+    ) -> io::Result<S> {
         let mut mock = MockTask::new(&rt)?;
-        let mut owner = Unblock::with_capacity(4, self.pool.try_clone()?, writer);
+        let is_to_stop = matches!(leaves, Leaves::Running);
+        let writer = Late::new(rt, rt.alloc(), &self.flushed, is_to_stop)?;
         if let Leaves::Queued = leaves {
-            let _ = self.pool.add(Beside::Stop(Arc::try_clone(&self.call)?));
+            root.add_stop(Arc::try_clone(&self.call)?);
             let _ = self.call.stops();
         }
-        let _ = WriteJob::begin(&mut owner, &mut mock);
+        let mut owner = root.lend(4, writer)?;
+        let _ = owner.begin(&mut mock);
         if let Leaves::Running = leaves {
             let _ = self.flushed.track.stops();
         }
@@ -243,23 +244,38 @@ where
     }
 
     // Whether the writer goes once its owner has left, and has flushed these bytes.
-    fn flushes(&self, rt: H, leaves: Leaves, wanted: &[u8]) -> io::Result<bool> {
-        drop(self.owner(rt, leaves)?);
+    fn flushes<S: Begun<Late<H>>, H: Runtime + RandomSource>(
+        &self,
+        rt: H,
+        root: &S,
+        leaves: Leaves,
+        wanted: &[u8],
+    ) -> io::Result<bool> {
+        drop(self.owner(rt, root, leaves)?);
         self.flushed.track.go_on();
         self.call.go_on();
         Ok(self.flushed.track.goes() && self.flushed.holds(&rt, wanted))
     }
 }
 
+// The same, in a pool of one worker.
+fn flushes<H: Host>(rt: H, leaves: Leaves, wanted: &[u8]) -> io::Result<bool> {
+    let desk = Desk::new(rt.alloc())?;
+    let other = Arc::new(rt.alloc(), Flushed::new(rt.alloc()))?;
+    let writer = Late::new(rt, rt.alloc(), &other, false)?;
+    let root = root::<_, WriteJob<Late<H>, H>, H>(rt, "1", writer)?;
+    desk.flushes(rt, &root, leaves, wanted)
+}
+
 #[test]
 fn writer_that_runs_writes_all(rt: HostRuntime) -> Result<(), Fail> {
-    assert!(rt; Desk::new(rt, one_worker(rt)?)?.flushes(rt, Leaves::Running, b"abcd")?);
+    assert!(rt; flushes(rt, Leaves::Running, b"abcd")?);
     Ok(())
 }
 
 #[test]
 fn queued_writer_writes_nothing(rt: HostRuntime) -> Result<(), Fail> {
-    assert!(rt; Desk::new(rt, one_worker(rt)?)?.flushes(rt, Leaves::Queued, b"")?);
+    assert!(rt; flushes(rt, Leaves::Queued, b"")?);
     Ok(())
 }
 
@@ -309,25 +325,17 @@ impl<J: Job> Job for Stays<J> {
 }
 
 // Whether a writer flushes all whose owner leaves while its job, which has written all, is seated and runs. None where he was too slow for that. (a job is seated within 20 milliseconds after its last write; where it isn't, it runs all the same, and has to flush)
-fn flushes_where_seated<J: Job + Carries<WriteJob<Late<H>, H>>, H: Host>(
+fn flushes_where_seated<S: Starts, H: Runtime + RandomSource>(
     rt: H,
-    pool: Executor<J, H>,
+    mut owner: S,
+    flushed: &Flushed,
 ) -> io::Result<Option<bool>> {
-    let flushed = Arc::new(rt.alloc(), Flushed::new(rt.alloc()))?;
     let mut mock = MockTask::new(&rt)?;
-    let writer = Late {
-        rt,
-        flushed: Arc::try_clone(&flushed)?,
-        kept: Vec::new(rt.alloc()),
-        is_to_stop: true,
-    };
-    let mut owner = Unblock::<_, u8, J, H>::with_capacity(4, pool, writer);
-    let _ = WriteJob::begin(&mut owner, &mut mock);
+    let _ = owner.begin(&mut mock);
     let has_begun = flushed.track.stops();
     let start = Instant::now(&rt)?;
     flushed.track.go_on();
-    let shared = &flushed;
-    if !has_begun || !comes_true(|| shared.written() == 4) {
+    if !has_begun || !comes_true(|| flushed.written() == 4) {
         return Ok(Some(false));
     }
     thread::sleep(&rt, Duration::from_millis(20));
@@ -337,9 +345,21 @@ fn flushes_where_seated<J: Job + Carries<WriteJob<Late<H>, H>>, H: Host>(
     Ok(if is_in_time { Some(flushes) } else { None })
 }
 
+type Seated<K, H> = Held<Late<H>, WriteJob<Late<H>, H>, K, H>;
+
+fn flushes_in<K: Job + Carries<WriteJob<Late<H>, H>>, H: Runtime + RandomSource>(
+    rt: H,
+    pool: &Executor<K, H>,
+) -> io::Result<Option<bool>> {
+    let flushed = Arc::new(rt.alloc(), Flushed::new(rt.alloc()))?;
+    let writer = Late::new(rt, rt.alloc(), &flushed, true)?;
+    let owner: Seated<K, H> = hold(pool, 4, writer)?;
+    flushes_where_seated(rt, owner, &flushed)
+}
+
 fn flushes_in_time<H: Host>(rt: H) -> io::Result<Option<bool>> {
     match Executor::<Stays<WriteJob<Late<H>, H>>, H>::new(rt, Some("1")) {
-        Ok(pool) => flushes_where_seated(rt, pool),
+        Ok(pool) => flushes_in(rt, &pool),
         Err(_) => Ok(None),
     }
 }
@@ -359,20 +379,26 @@ fn writer_that_is_seated_and_runs_flushes_all(rt: HostRuntime) -> Result<(), Fai
 }
 
 // Whether a reader whose job is over goes as its owner is dropped, by this thread.
-fn goes_at_once<H: Host>(rt: H) -> io::Result<bool> {
-    let Ok(pool) = Pool::<ReadJob<Planned, H>, H>::new(rt, Some("1")) else {
-        return Ok(false);
-    };
+fn goes_at_once_of<S: Begun<Planned>, H: Runtime + RandomSource>(
+    rt: H,
+    root: &S,
+) -> io::Result<bool> {
     let track = Arc::new(rt.alloc(), Track::new())?;
     let mut mock = MockTask::new(&rt)?;
-    let reader = Planned::new(Arc::try_clone(&track)?, &[]);
-    let mut owner = Unblock::with_capacity(4, pool.try_clone()?, reader);
-    let _ = ReadJob::begin(&mut owner, &mut mock);
-    if !rests(&pool) || track.is_gone() {
+    let reader = Planned::new(rt.alloc(), Arc::try_clone(&track)?, &[])?;
+    let mut owner = root.lend(4, reader)?;
+    let _ = owner.begin(&mut mock);
+    if !rests(root) || track.is_gone() {
         return Ok(false);
     }
     drop(owner);
     Ok(track.is_gone())
+}
+
+fn goes_at_once<H: Host>(rt: H) -> io::Result<bool> {
+    let reader = Planned::new(rt.alloc(), Arc::new(rt.alloc(), Track::new())?, &[])?;
+    let root = root::<_, ReadJob<Planned, H>, H>(rt, "1", reader)?;
+    goes_at_once_of(rt, &root)
 }
 
 #[test]
@@ -381,76 +407,50 @@ fn reader_whose_job_is_over_goes_at_once(rt: HostRuntime) -> Result<(), Fail> {
     Ok(())
 }
 
-// A pool of one worker, which is at a call that stops, and what is seen of a handle.
+// A worker that is at a call which stops, and what is seen of a handle.
 #[derive(Drop)]
-struct Busy<J: Job, H: Host>
-where
-    Beside<J>: Job,
-{
-    pool: Pool<J, H>,
+struct Busy {
     call: Arc<Track>,
     tally: Arc<Tally>,
     mock: MockTask,
 }
 
-impl<J: Begins<Endless<H>, H> + Send + 'static, H: Host> Busy<J, H>
-where
-    Beside<J>: Job,
-{
-    fn new(rt: H, pool: Pool<J, H>) -> io::Result<Busy<J, H>> {
-        let call = Arc::new(rt.alloc(), Track::new())?;
-        let _ = pool.add(Beside::Stop(Arc::try_clone(&call)?));
-        let _ = call.stops();
-        Ok(Busy {
-            pool,
-            call,
+impl Busy {
+    // The worker of this owner's pool comes to be so.
+    fn new<S: Begun<Endless<H>>, H: Runtime + RandomSource>(rt: H, root: &S) -> io::Result<Busy> {
+        let busy = Busy {
+            call: Arc::new(rt.alloc(), Track::new())?,
             tally: Arc::new(rt.alloc(), Tally::new())?,
             mock: MockTask::new(&rt)?,
-        })
-    }
-
-    fn owner(&self, rt: H, pace: Pace) -> io::Result<Owner<Endless<H>, J, H>> {
-        let handle = Endless {
-            rt,
-            tally: Arc::try_clone(&self.tally)?,
-            pace,
         };
-        Ok(Unblock::with_capacity(4, self.pool.try_clone()?, handle))
+        root.add_stop(Arc::try_clone(&busy.call)?);
+        let _ = busy.call.stops();
+        Ok(busy)
     }
+}
 
-    // How many calls are made of a handle whose owner leaves while its job is queued; None where it doesn't go.
-    fn calls_of_queued(&mut self, rt: H) -> io::Result<Option<usize>> {
-        let mut owner = self.owner(rt, Pace::AtOnce)?;
-        let _ = J::begin(&mut owner, &mut self.mock);
-        drop(owner);
-        self.call.go_on();
-        let tally = &self.tally;
-        if !comes_true(|| tally.gone() == 1) {
-            return Ok(None);
-        }
-        Ok(Some(tally.calls()))
+// How many calls are made of a handle whose owner leaves while its job is queued; None where it doesn't go.
+fn calls_of<S: Begun<Endless<H>>, H: Runtime + RandomSource>(
+    rt: H,
+    root: &S,
+) -> io::Result<Option<usize>> {
+    let mut busy = Busy::new(rt, root)?;
+    let mut owner = root.lend(4, Endless::new(rt, &busy.tally, Pace::AtOnce)?)?;
+    let _ = owner.begin(&mut busy.mock);
+    drop(owner);
+    busy.call.go_on();
+    let tally = &busy.tally;
+    if !comes_true(|| tally.gone() == 1) {
+        return Ok(None);
     }
-
-    // Whether a poll that waits for a handle which stops isn't woken meanwhile.
-    fn waits_quietly(&mut self, rt: H) -> io::Result<bool> {
-        self.call.go_on();
-        let mut owner = self.owner(rt, Pace::Stops)?;
-        let _ = J::begin(&mut owner, &mut self.mock);
-        if !self.tally.track.stops() {
-            return Ok(false);
-        }
-        let waits = J::begin(&mut owner, &mut self.mock);
-        thread::sleep(&rt, Duration::from_millis(30));
-        let is_quiet = !self.mock.is_woken();
-        self.tally.track.go_on();
-        Ok(waits && is_quiet)
-    }
+    Ok(Some(tally.calls()))
 }
 
 fn calls_of_queued<J: Begins<Endless<H>, H> + Send + 'static, H: Host>(
     rt: H,
 ) -> io::Result<Option<usize>> {
-    Busy::<J, H>::new(rt, one_worker(rt)?)?.calls_of_queued(rt)
+    let root = root_of::<J, H>(rt, "1")?;
+    calls_of(rt, &root)
 }
 
 #[test]
@@ -463,8 +463,28 @@ fn queued_sessions_are_dropped_unrun(rt: HostRuntime) -> Result<(), Fail> {
     Ok(())
 }
 
+// Whether a poll that waits for a handle which stops isn't woken meanwhile.
+fn is_left_alone<S: Begun<Endless<H>>, H: Runtime + RandomSource>(
+    rt: H,
+    root: &S,
+) -> io::Result<bool> {
+    let mut busy = Busy::new(rt, root)?;
+    busy.call.go_on();
+    let mut owner = root.lend(4, Endless::new(rt, &busy.tally, Pace::Stops)?)?;
+    let _ = owner.begin(&mut busy.mock);
+    if !busy.tally.track.stops() {
+        return Ok(false);
+    }
+    let waits = owner.begin(&mut busy.mock);
+    thread::sleep(&rt, Duration::from_millis(30));
+    let is_quiet = !busy.mock.is_woken();
+    busy.tally.track.go_on();
+    Ok(waits && is_quiet)
+}
+
 fn waits_quietly<J: Begins<Endless<H>, H> + Send + 'static, H: Host>(rt: H) -> io::Result<bool> {
-    Busy::<J, H>::new(rt, one_worker(rt)?)?.waits_quietly(rt)
+    let root = root_of::<J, H>(rt, "1")?;
+    is_left_alone(rt, &root)
 }
 
 #[test]
@@ -477,17 +497,27 @@ fn polls_that_wait_are_left_alone(rt: HostRuntime) -> Result<(), Fail> {
     Ok(())
 }
 
-// Whether a stream whose job waits at a full pipe can be stopped.
-fn full_stream_stops<H: Host>(rt: H) -> io::Result<bool> {
-    let mut busy = Busy::<ItemJob<Endless<H>, u8, H>, H>::new(rt, one_worker(rt)?)?;
+// Whether a session whose job waits at a full pipe can be stopped.
+fn full_one_stops<S: Begun<Endless<H>>, H: Runtime + RandomSource>(
+    rt: H,
+    root: &S,
+) -> io::Result<bool> {
+    let mut busy = Busy::new(rt, root)?;
     busy.call.go_on();
-    let mut owner = busy.owner(rt, Pace::AtOnce)?;
-    let _ = ItemJob::begin(&mut owner, &mut busy.mock);
-    if !rests(&busy.pool) || owner.is_closed() {
+    let mut owner = root.lend(4, Endless::new(rt, &busy.tally, Pace::AtOnce)?)?;
+    let _ = owner.begin(&mut busy.mock);
+    if !rests(root) {
         return Ok(false);
     }
-    let handle = block_on(&rt, owner.into_inner())?;
-    Ok(handle.tally.calls() > 4)
+    Ok(match owner.taken_back()? {
+        Some(handle) => handle.tally.calls() > 4,
+        None => false,
+    })
+}
+
+fn full_stream_stops<H: Host>(rt: H) -> io::Result<bool> {
+    let root = root_of::<ItemJob<Endless<H>, u8, H>, H>(rt, "1")?;
+    full_one_stops(rt, &root)
 }
 
 #[test]

@@ -27,6 +27,8 @@ mod kinds;
 #[cfg(test)]
 mod leaving;
 #[cfg(test)]
+mod lent;
+#[cfg(test)]
 mod many_writes;
 #[cfg(test)]
 mod places;
@@ -36,6 +38,8 @@ mod reader;
 mod rows;
 #[cfg(test)]
 mod scene;
+#[cfg(test)]
+mod trials;
 #[cfg(test)]
 mod whole;
 #[cfg(test)]

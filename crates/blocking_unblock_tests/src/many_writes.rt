@@ -4,23 +4,25 @@ ghost use Rattle.futures.specs.Task.{IsArmed, Keeps};
 
 use crate::reader::Cycle;
 use crate::writer::Comparing;
-use blocking::{AsyncWrite, Executor, Host, Runtime, Unblock, WriteJob};
+use blocking::{AsyncWrite, Executor, Runtime, Unblock, WriteJob};
 use blocking_core::pool::{Carries, Job};
 use futures::Future;
 use futures::executor::block_on;
 use futures::task::{Context, Poll};
+use std::alloc::AllocGlobal;
 use std::io;
+use std::random::RandomSource;
 use std::sync::Wait;
 use std::test::Fail;
 
 // How many bytes are handed on at once.
 const PIECE: usize = 65_536;
 
-// Writes so many bytes, flushes, and gives how many the writer found in their places. (none after a fault)
+// Writes so many bytes and flushes. Tells whether all were taken and written.
 #[derive(Drop)]
-struct Many<J: Job + Carries<WriteJob<Comparing, H>>, H: Runtime> {
+struct Many<A: AsyncWrite + Drop, H: Runtime> {
     rt: H,
-    owner: Unblock<Comparing, (), J, H>,
+    owner: A,
     cycle: Cycle,
     bytes: u64,
     taken: u64,
@@ -54,13 +56,12 @@ fn hand_on<A: AsyncWrite, H: Runtime>(
     unreachable!()
 }
 
-impl<J: Job + Carries<WriteJob<Comparing, H>>, H: Runtime> Future for Many<J, H> {
-    type Output = Option<u64>;
+impl<A: AsyncWrite + Drop, H: Runtime> Future for Many<A, H> {
+    type Output = bool;
 
-    fn poll(&mut self, cx: &mut Context<'_>) -> Poll<Option<u64>> {
-        if self.owner.is_closed() {
-            return Poll::Ready(None);
-        }
+    ghost can_poll = { λ it. A.closed it.owner → ⊥ };
+
+    fn poll(&mut self, cx: &mut Context<'_>) -> Poll<bool> {
         match hand_on(
             self.rt,
             &mut self.owner,
@@ -71,44 +72,75 @@ impl<J: Job + Carries<WriteJob<Comparing, H>>, H: Runtime> Future for Many<J, H>
         ) {
             Poll::Pending => return Poll::Pending,
             Poll::Ready(true) => {}
-            Poll::Ready(false) => return Poll::Ready(None),
+            Poll::Ready(false) => return Poll::Ready(false),
         }
         match self.owner.poll_flush(cx) {
-            Poll::Pending => return Poll::Pending,
-            Poll::Ready(Ok(())) => {}
-            Poll::Ready(Err(_)) => return Poll::Ready(None),
-        }
-        if self.owner.is_closed() {
-            return Poll::Ready(None);
-        }
-        match self.owner.poll_get_mut(cx) {
             Poll::Pending => Poll::Pending,
-            Poll::Ready(writer) => Poll::Ready(Some(writer.right())),
+            Poll::Ready(flushed) => Poll::Ready(flushed.is_ok()),
         }
     }
 }
 
-// How many bytes come to the writer, each in its place.
-fn come<J: Job + Carries<WriteJob<Comparing, H>>, H: Host>(
+// How many bytes the writer of this owner found in their places.
+fn right_of<J: Job, H: Runtime + RandomSource>(
+    rt: &H,
+    owner: Unblock<Comparing, (), J, H>,
+) -> io::Result<Option<u64>> {
+    if owner.is_closed() {
+        return Ok(None);
+    }
+    let writer = block_on(rt, owner.into_inner())?;
+    Ok(Some(writer.right()))
+}
+
+// Writes so many bytes by an owner that is open, and gives that back; none where they weren't all written.
+fn written<A: AsyncWrite + Drop, H: Runtime + RandomSource>(
+    rt: H,
+    owner: A,
+    cycle: Cycle,
+    bytes: u64,
+) -> io::Result<Option<A>>
+    requires { A.closed owner → ⊥ }
+{
+    let mut many = Many {
+        rt,
+        owner,
+        cycle,
+        bytes,
+        taken: 0,
+    };
+    let is_written = block_on(&rt, &mut many)?;
+    Ok(if is_written { Some(many.owner) } else { None })
+}
+
+// The owner of a writer, with a pipe of this row.
+fn owner<J: Job, H: Runtime>(
+    executor: Executor<J, H>,
+    row: &Row,
+    writer: Comparing,
+) -> Unblock<Comparing, (), J, H> {
+    match row.capacity {
+        Some(capacity) if capacity > 0 => Unblock::with_capacity(capacity, executor, writer),
+        _ => Unblock::new(executor, writer),
+    }
+}
+
+// How many bytes come to the writer, each in its place. (none after a fault)
+fn come<J: Job + Carries<WriteJob<Comparing, H>>, H: Runtime + RandomSource>(
     rt: H,
     executor: &Executor<J, H>,
     row: &Row,
 ) -> io::Result<Option<u64>> {
     let cycle = Cycle::new(rt.alloc())?;
     let writer = Comparing::new(Cycle::new(rt.alloc())?, row.at_once);
-    let executor = executor.try_clone()?;
-    let owner = match row.capacity {
-        Some(capacity) if capacity > 0 => Unblock::with_capacity(capacity, executor, writer),
-        _ => Unblock::new(executor, writer),
-    };
-    let many = Many {
-        rt,
-        owner,
-        cycle,
-        bytes: row.bytes,
-        taken: 0,
-    };
-    block_on(&rt, many)
+    let owner = owner(executor.try_clone()?, row, writer);
+    if owner.is_closed() {
+        return Ok(None);
+    }
+    match written(rt, owner, cycle, row.bytes)? {
+        Some(owner) => right_of(&rt, owner),
+        None => Ok(None),
+    }
 }
 
 // No capacity is the default.

@@ -15,6 +15,7 @@ use futures::{Future, Stream, StreamExt};
 use std::alloc::Global;
 use std::fmt::{Debug, Formatter};
 use std::io::{Cursor, ErrorKind, Read, Seek, SeekFrom, Write};
+use std::random::RandomSource;
 use std::sync::Arc;
 use std::sync::atomic::{AtomicBool, AtomicUsize, Ordering};
 use std::test::Fail;
@@ -339,34 +340,41 @@ const ROWS: &[(&str, &[Step])] = &[
 type Owner<J, H> = Unblock<Gated, u8, J, H>;
 
 // Whether a seek that is polled once waits, while the handle can't go on.
-fn begins_seek<J: Job + Carries<SeekJob<Gated, H>>, H: Host>(
+fn begins_seek<H: Runtime + RandomSource, A: AsyncSeek>(
     rt: H,
-    owner: &mut Owner<J, H>,
+    owner: &mut A,
     gate: &Gate,
     to: SeekFrom,
-) -> io::Result<Came> {
-    let mut mock = MockTask::new(&rt)?;
+) -> io::Result<Came>
+    requires { A.closed owner.old → ⊥ }
+{
+    let mock = MockTask::new(&rt)?;
     gate.shut();
-    let waits = mock.enter(|cx| !owner.is_closed() && owner.poll_seek(cx, to).is_pending());
+    let waits = mock.enter(|cx| owner.poll_seek(cx, to).is_pending());
     gate.open();
     Ok(Came::if_right(waits))
 }
 
+// Whether a future that is polled once waits. It is dropped then.
+fn is_pending<F: Future<Output: Drop> + Drop>(mut future: F, mock: &MockTask) -> bool
+    requires { F.can_poll future }
+{
+    mock.poll(&mut future).is_pending()
+}
+
 // Whether an operation that is polled once waits, while the handle can't go on. It is dropped then.
-fn begins_jump<J: Job + Carries<OpJob<Jump, Gated, H>>, H: Host>(
+fn begins_jump<J: Job + Carries<OpJob<Jump, Gated, H>>, H: Runtime + RandomSource>(
     rt: H,
     owner: &mut Owner<J, H>,
     gate: &Gate,
     to: u64,
 ) -> io::Result<Came> {
+    let mock = MockTask::new(&rt)?;
     if owner.is_closed() {
         return Ok(Came::Wrong);
     }
-    let mut mock = MockTask::new(&rt)?;
     gate.shut();
-    let mut jump = owner.with_mut(Jump { to });
-    let waits = mock.enter(|cx| !jump.is_taken() && jump.poll(cx).is_pending());
-    drop(jump);
+    let waits = is_pending(owner.with_mut(Jump { to }), &mock);
     gate.open();
     Ok(Came::if_right(waits))
 }
@@ -380,7 +388,11 @@ fn failed(why: IoFault) -> Came {
 }
 
 // Whether the next byte that is read is this one; or where none is named, whether the end is read.
-fn reads<H: Host, A: AsyncRead>(rt: H, owner: &mut A, byte: &[u8]) -> io::Result<Came>
+fn reads<H: Runtime + RandomSource, A: AsyncRead>(
+    rt: H,
+    owner: &mut A,
+    byte: &[u8],
+) -> io::Result<Came>
     requires { A.closed owner.old → ⊥ }
 {
     let mut one = [0u8; 1];
@@ -392,7 +404,7 @@ fn reads<H: Host, A: AsyncRead>(rt: H, owner: &mut A, byte: &[u8]) -> io::Result
 }
 
 // Whether the next item is this one.
-fn gets<H: Host, A: Stream<Item = Result<u8, Refusal>>>(
+fn gets<H: Runtime + RandomSource, A: Stream<Item = Result<u8, Refusal>>>(
     rt: H,
     owner: &mut A,
     item: u8,
@@ -407,7 +419,11 @@ fn gets<H: Host, A: Stream<Item = Result<u8, Refusal>>>(
 }
 
 // Whether these bytes are taken for writing.
-fn writes<H: Host, A: AsyncWrite>(rt: H, owner: &mut A, bytes: &[u8]) -> io::Result<Came>
+fn writes<H: Runtime + RandomSource, A: AsyncWrite>(
+    rt: H,
+    owner: &mut A,
+    bytes: &[u8],
+) -> io::Result<Came>
     requires { A.closed owner.old → ⊥ }
 {
     Ok(match block_on(&rt, owner.write_all(bytes))? {
@@ -417,7 +433,12 @@ fn writes<H: Host, A: AsyncWrite>(rt: H, owner: &mut A, bytes: &[u8]) -> io::Res
 }
 
 // Whether a seek comes to this place.
-fn seeks<H: Host, A: AsyncSeek>(rt: H, owner: &mut A, to: SeekFrom, place: u64) -> io::Result<Came>
+fn seeks<H: Runtime + RandomSource, A: AsyncSeek>(
+    rt: H,
+    owner: &mut A,
+    to: SeekFrom,
+    place: u64,
+) -> io::Result<Came>
     requires { A.closed owner.old → ⊥ }
 {
     Ok(match block_on(&rt, owner.seek(to))? {
@@ -427,7 +448,7 @@ fn seeks<H: Host, A: AsyncSeek>(rt: H, owner: &mut A, to: SeekFrom, place: u64) 
 }
 
 // Whether a seek fails so.
-fn fails_to_seek<H: Host, A: AsyncSeek>(
+fn fails_to_seek<H: Runtime + RandomSource, A: AsyncSeek>(
     rt: H,
     owner: &mut A,
     to: SeekFrom,
@@ -440,7 +461,7 @@ fn fails_to_seek<H: Host, A: AsyncSeek>(
 }
 
 // Whether an operation tells that the handle was there before, or is handed back.
-fn jumps<J: Job + Carries<OpJob<Jump, Gated, H>>, H: Host>(
+fn jumps<J: Job + Carries<OpJob<Jump, Gated, H>>, H: Runtime + RandomSource>(
     rt: H,
     owner: &mut Owner<J, H>,
     to: u64,
@@ -457,7 +478,7 @@ fn jumps<J: Job + Carries<OpJob<Jump, Gated, H>>, H: Host>(
 }
 
 // Whether the owner has this text.
-fn says<J: Job, H: Host>(rt: H, owner: &Owner<J, H>, text: &str) -> io::Result<Came> {
+fn says<H: Runtime, A: Debug>(rt: H, owner: &A, text: &str) -> io::Result<Came> {
     let said = format!(in rt.alloc(); "{owner:?}")?;
     Ok(Came::if_right(said.as_str() == text))
 }
@@ -470,7 +491,13 @@ struct Scene<J: Job, H: Runtime> {
     gate: Arc<Gate>,
 }
 
-impl<J, H> Scene<J, H>
+// A scene as it is played. It promises nothing: a proof over any of these costs a part of what it costs over an `Unblock` itself.
+trait Plays: Drop {
+    // How what a step shows fits that isn't to be refused.
+    fn does(&mut self, step: Step) -> io::Result<Came>;
+}
+
+impl<J, H> Plays for Scene<J, H>
 where
     J: Job
         + Carries<ReadJob<Gated, H>>
@@ -478,9 +505,8 @@ where
         + Carries<ItemJob<Gated, u8, H>>
         + Carries<SeekJob<Gated, H>>
         + Carries<OpJob<Jump, Gated, H>>,
-    H: Host,
+    H: Runtime + RandomSource,
 {
-    // How what a step shows fits that isn't to be refused.
     fn does(&mut self, step: Step) -> io::Result<Came> {
         let rt = self.rt;
         let owner = &mut self.owner;
@@ -503,25 +529,25 @@ where
             Step::Refuses(_) => Ok(Came::Wrong),
         }
     }
+}
 
-    // How what a step shows fits.
-    fn shows(&mut self, step: Step) -> io::Result<Came> {
-        let Step::Refuses(refused) = step else {
-            return self.does(step);
-        };
-        let came = self.does(*refused)?;
-        Ok(Came::if_right(matches!(came, Came::Refused(Refusal::Memory))))
-    }
+// How what a step shows fits.
+fn shows<S: Plays>(scene: &mut S, step: Step) -> io::Result<Came> {
+    let Step::Refuses(refused) = step else {
+        return scene.does(step);
+    };
+    let came = scene.does(*refused)?;
+    Ok(Came::if_right(matches!(came, Came::Refused(Refusal::Memory))))
+}
 
-    // The place of the first step that shows something else than it must, if there is one.
-    fn first_wrong(&mut self, steps: &[Step]) -> io::Result<Option<usize>> {
-        for (place, step) in steps.iter().enumerate() {
-            if !self.shows(*step)?.is_right() {
-                return Ok(Some(place));
-            }
+// The place of the first step that shows something else than it must, if there is one.
+fn play<S: Plays>(mut scene: S, steps: &[Step]) -> io::Result<Option<usize>> {
+    for (place, step) in steps.iter().enumerate() {
+        if !shows(&mut scene, *step)?.is_right() {
+            return Ok(Some(place));
         }
-        Ok(None)
     }
+    Ok(None)
 }
 
 /// How much the pipes of an owner's sessions hold.
@@ -532,19 +558,27 @@ pub(crate) enum Way {
     TooMuch,
 }
 
-/// The place of the first step that shows something else than it must, if there is one.
-pub(crate) fn first_wrong<H: Host>(rt: H, way: Way, steps: &[Step]) -> io::Result<Option<usize>> {
+// A scene over this executor.
+fn new_scene<J: Job, H: Runtime>(
+    rt: H,
+    executor: Executor<J, H>,
+    way: Way,
+) -> io::Result<Scene<J, H>> {
     let gate = Arc::new(rt.alloc(), Gate::new(NO_FAULTS))?;
     let handle = Gated::new(rt.alloc(), Arc::try_clone(&gate)?, 1000, usize::MAX)?;
-    let Ok(executor) = Executor::<Kinds<H>, H>::new(rt, Some("1")) else {
-        return Err(io::Error::from(io::ErrorKind::Other));
-    };
     let owner = match way {
         Way::TooMuch => Unblock::with_capacity(usize::MAX, executor, handle),
         Way::Default => Unblock::new(executor, handle),
     };
-    let mut scene = Scene { rt, owner, gate };
-    scene.first_wrong(steps)
+    Ok(Scene { rt, owner, gate })
+}
+
+/// The place of the first step that shows something else than it must, if there is one.
+pub(crate) fn first_wrong<H: Host>(rt: H, way: Way, steps: &[Step]) -> io::Result<Option<usize>> {
+    match Executor::<Kinds<H>, H>::new(rt, Some("1")) {
+        Ok(executor) => play(new_scene(rt, executor, way)?, steps),
+        Err(_) => Err(io::Error::from(io::ErrorKind::Other)),
+    }
 }
 
 #[test]

@@ -168,10 +168,18 @@ impl Track {
     }
 }
 
+// What it does, with bytes of its own: a type that holds references of its own could not stand for a parameter of the players.
+#[derive(Drop)]
+enum Kept {
+    Bytes(Vec<u8>),
+    Fails,
+    Stops,
+}
+
 /// A reader that goes by a plan, and is at its end where the plan is.
 pub(crate) struct Planned {
     track: Arc<Track>,
-    plan: &'static [Given],
+    plan: Vec<Kept>,
     // How much of the plan is done, and of the bytes at its front.
     done: usize,
     front: usize,
@@ -180,14 +188,22 @@ pub(crate) struct Planned {
 }
 
 impl Planned {
-    pub(crate) fn new(track: Arc<Track>, plan: &'static [Given]) -> Planned {
-        Planned {
+    pub(crate) fn new(alloc: Global, track: Arc<Track>, plan: &[Given]) -> io::Result<Planned> {
+        let mut kept = Vec::new(alloc);
+        for given in plan {
+            kept.push(match given {
+                Given::Bytes(bytes) => Kept::Bytes(Vec::from_slice(alloc, bytes)?),
+                Given::Fails => Kept::Fails,
+                Given::Stops => Kept::Stops,
+            })?;
+        }
+        Ok(Planned {
             track,
-            plan,
+            plan: kept,
             done: 0,
             front: 0,
             given: 0,
-        }
+        })
     }
 
     /// How many bytes it gave.
@@ -201,14 +217,18 @@ impl Planned {
     }
 
     // The next bytes.
-    fn give(&mut self, bytes: &[u8], buf: &mut [u8]) -> usize
+    fn give(&mut self, buf: &mut [u8]) -> usize
         ensures { result ≤ length buf.new }
     {
+        let Some(Kept::Bytes(bytes)) = self.plan.get(self.done) else {
+            return 0;
+        };
         let rest = bytes.get(self.front..).unwrap_or(&[]);
         let count = rest.len().min(buf.len());
         buf[..count].copy_from_slice(&rest[..count]);
+        let are_all = count == rest.len();
         self.given = self.given.saturating_add(count);
-        if count == rest.len() {
+        if are_all {
             self.pass_on();
         } else {
             self.front = self.front.saturating_add(count);
@@ -220,17 +240,17 @@ impl Planned {
 impl Read for Planned {
     fn read(&mut self, buf: &mut [u8]) -> io::Result<usize> {
         let _ = self.track.most.fetch_max(buf.len(), Ordering::SeqCst);
-        if let Some(Given::Stops) = self.plan.get(self.done) {
+        if let Some(Kept::Stops) = self.plan.get(self.done) {
             self.pass_on();
             self.track.stop();
         }
         match self.plan.get(self.done) {
-            Some(Given::Bytes(bytes)) => Ok(self.give(bytes, buf)),
-            Some(Given::Fails) => {
+            Some(Kept::Bytes(_)) => Ok(self.give(buf)),
+            Some(Kept::Fails) => {
                 self.pass_on();
                 Err(io::Error::from(io::ErrorKind::Other))
             }
-            Some(Given::Stops) | None => Ok(0),
+            Some(Kept::Stops) | None => Ok(0),
         }
     }
 }

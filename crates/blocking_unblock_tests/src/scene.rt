@@ -67,26 +67,102 @@ impl Sight {
     }
 }
 
-type Owner<J, H> = Unblock<Planned, (), J, H>;
+type Came<T> = Option<Poll<T>>;
+
+/// The owner of a planned reader. It promises nothing: a proof over any of these costs a part of what it costs over an `Unblock` itself.
+pub(crate) trait Reads: Drop {
+    /// What a poll into this buffer shows. (none of an owner that is closed)
+    fn poll_bytes(&mut self, mock: &MockTask, buffer: &mut [u8]) -> Came<Result<usize, IoFault>>;
+
+    /// How many bytes the reader gave, once it is there.
+    fn poll_given(&mut self, mock: &MockTask) -> Came<usize>;
+
+    /// Whether its text is this.
+    fn says(&self, alloc: Global, wanted: &str) -> io::Result<bool>;
+}
+
+impl<J: Job + Carries<ReadJob<Planned, H>>, H: Runtime> Reads for Unblock<Planned, (), J, H> {
+    fn poll_bytes(&mut self, mock: &MockTask, buffer: &mut [u8]) -> Came<Result<usize, IoFault>> {
+        if self.is_closed() {
+            return None;
+        }
+        Some(mock.enter(|cx| self.poll_read(cx, buffer)))
+    }
+
+    fn poll_given(&mut self, mock: &MockTask) -> Came<usize> {
+        if self.is_closed() {
+            return None;
+        }
+        Some(mock.enter(|cx| match self.poll_get_mut(cx) {
+            Poll::Ready(reader) => Poll::Ready(reader.given()),
+            Poll::Pending => Poll::Pending,
+        }))
+    }
+
+    fn says(&self, alloc: Global, wanted: &str) -> io::Result<bool> {
+        Ok(format!(in alloc; "{self:?}")?.as_str() == wanted)
+    }
+}
+
+/// A pool that such owners lend to. It promises nothing either.
+pub(crate) trait Lends<O>: Drop {
+    fn alloc(&self) -> Global;
+
+    fn task(&self) -> io::Result<MockTask>;
+
+    /// One more owner, of the reader by this plan of a row.
+    fn lend(&self, row: &Row, place: usize, track: Arc<Track>) -> io::Result<O>;
+
+    /// Whether there come to be so many workers, all idle, and no job that is queued.
+    fn rests(&self, workers: usize) -> bool;
+}
+
+impl<J, H> Lends<Unblock<Planned, (), J, H>> for Executor<J, H>
+where
+    J: Job + Carries<ReadJob<Planned, H>>,
+    H: Runtime + RandomSource,
+{
+    fn alloc(&self) -> Global {
+        self.runtime().alloc()
+    }
+
+    fn task(&self) -> io::Result<MockTask> {
+        MockTask::new(&self.runtime())
+    }
+
+    fn lend(
+        &self,
+        row: &Row,
+        place: usize,
+        track: Arc<Track>,
+    ) -> io::Result<Unblock<Planned, (), J, H>> {
+        let plan = row.plans.get(place).copied().unwrap_or(&[]);
+        let reader = Planned::new(self.runtime().alloc(), track, plan)?;
+        let executor = self.try_clone()?;
+        Ok(if row.capacity > 0 {
+            Unblock::with_capacity(row.capacity, executor, reader)
+        } else {
+            Unblock::new(executor, reader)
+        })
+    }
+
+    fn rests(&self, workers: usize) -> bool {
+        rests(self, workers)
+    }
+}
 
 // An owner, what it shares with its reader, and the task that polls it.
 #[derive(Drop)]
-struct Seen<J: Job, H: Runtime> {
-    owner: Option<Owner<J, H>>,
+struct Seen<O: Reads> {
+    owner: Option<O>,
     track: Arc<Track>,
     mock: MockTask,
 }
 
-type Came<T> = Option<Poll<T>>;
-
-impl<J: Job + Carries<ReadJob<Planned, H>>, H: Runtime> Seen<J, H> {
+impl<O: Reads> Seen<O> {
     // (none where there is no owner any more)
     fn poll(&mut self, buffer: &mut [u8]) -> Came<Result<usize, IoFault>> {
-        let owner = &mut self.owner;
-        self.mock.enter(|cx| match owner {
-            Some(owner) if !owner.is_closed() => Some(owner.poll_read(cx, buffer)),
-            _ => None,
-        })
+        self.owner.as_mut()?.poll_bytes(&self.mock, buffer)
     }
 
     fn read(&mut self, buffer: &mut [u8]) -> Came<Result<usize, IoFault>> {
@@ -128,14 +204,7 @@ impl<J: Job + Carries<ReadJob<Planned, H>>, H: Runtime> Seen<J, H> {
 
     // How many bytes the reader gave, once it is there.
     fn poll_reader(&mut self) -> Came<usize> {
-        let owner = &mut self.owner;
-        self.mock.enter(|cx| match owner {
-            Some(owner) if !owner.is_closed() => Some(match owner.poll_get_mut(cx) {
-                Poll::Ready(reader) => Poll::Ready(reader.given()),
-                Poll::Pending => Poll::Pending,
-            }),
-            _ => None,
-        })
+        self.owner.as_mut()?.poll_given(&self.mock)
     }
 
     fn reader(&mut self) -> Came<usize> {
@@ -180,7 +249,7 @@ impl<J: Job + Carries<ReadJob<Planned, H>>, H: Runtime> Seen<J, H> {
 
     fn says(&self, alloc: Global, wanted: &str) -> io::Result<bool> {
         match &self.owner {
-            Some(owner) => Ok(format!(in alloc; "{owner:?}")?.as_str() == wanted),
+            Some(owner) => owner.says(alloc, wanted),
             None => Ok(false),
         }
     }
@@ -209,37 +278,27 @@ fn is_reader(came: Came<usize>, sight: Sight) -> bool {
 
 // The owners, and what they share.
 #[derive(Drop)]
-struct Scene<J: Job, H: Runtime> {
-    rt: H,
-    executor: Executor<J, H>,
-    owners: Vec<Seen<J, H>>,
+struct Scene<O: Reads, P: Lends<O>> {
+    pool: P,
+    owners: Vec<Seen<O>>,
 }
 
-impl<J: Job + Carries<ReadJob<Planned, H>>, H: Runtime + RandomSource> Scene<J, H> {
-    // One more owner. No capacity is the default.
-    fn begin(&mut self, capacity: usize, plan: &'static [Given]) -> io::Result<()> {
-        let mock = MockTask::new(&self.rt)?;
-        let track = Arc::new(self.rt.alloc(), Track::new())?;
-        let reader = Planned::new(Arc::try_clone(&track)?, plan);
-        let executor = self.executor.try_clone()?;
-        let owner = if capacity > 0 {
-            Unblock::with_capacity(capacity, executor, reader)
-        } else {
-            Unblock::new(executor, reader)
-        };
-        self.owners.push(Seen {
-            owner: Some(owner),
-            track,
-            mock,
-        })?;
+impl<O: Reads, P: Lends<O>> Scene<O, P> {
+    // One more owner, by this plan of a row.
+    fn begin(&mut self, row: &Row, place: usize) -> io::Result<()> {
+        let mock = self.pool.task()?;
+        let track = Arc::new(self.pool.alloc(), Track::new())?;
+        let owner = self.pool.lend(row, place, Arc::try_clone(&track)?)?;
+        let owner = Some(owner);
+        self.owners.push(Seen { owner, track, mock })?;
         Ok(())
     }
 
     // Whether a step shows what it must.
     fn take(&mut self, place: usize, step: Step) -> io::Result<bool> {
-        let alloc = self.rt.alloc();
+        let alloc = self.pool.alloc();
         if let Step::Rests(workers) = step {
-            return Ok(rests(&self.executor, workers));
+            return Ok(self.pool.rests(workers));
         }
         let Some(seen) = self.owners.get_mut(place) else {
             return Ok(false);
@@ -309,26 +368,23 @@ pub(crate) fn first_wrong<H: Host>(rt: H, row: &Row) -> io::Result<Option<usize>
     let Ok(executor) = Executor::<ReadJob<Planned, H>, H>::new(rt, Some("1")) else {
         return Err(io::Error::from(io::ErrorKind::Other));
     };
-    first_wrong_in(rt, executor, row)
+    first_wrong_in(executor, row)
 }
 
 /// The same, over this executor.
-pub(crate) fn first_wrong_in<J, H>(
-    rt: H,
-    executor: Executor<J, H>,
-    row: &Row,
-) -> io::Result<Option<usize>>
+pub(crate) fn first_wrong_in<J, H>(executor: Executor<J, H>, row: &Row) -> io::Result<Option<usize>>
 where
     J: Job + Carries<ReadJob<Planned, H>>,
     H: Runtime + RandomSource,
 {
-    let mut scene = Scene {
-        rt,
-        executor,
-        owners: Vec::new(rt.alloc()),
-    };
-    for plan in row.plans {
-        scene.begin(row.capacity, plan)?;
+    play::<Unblock<Planned, (), J, H>, Executor<J, H>>(executor, row)
+}
+
+fn play<O: Reads, P: Lends<O>>(pool: P, row: &Row) -> io::Result<Option<usize>> {
+    let owners = Vec::new(pool.alloc());
+    let mut scene = Scene { pool, owners };
+    for place in 0..row.plans.len() {
+        scene.begin(row, place)?;
     }
     scene.first_wrong(row.steps)
 }

@@ -1,12 +1,13 @@
 //! Whole reads by futures, one after another on one reader.
 use crate::reader::Given::{Bytes, Fails};
 use crate::reader::{Given, Planned, Track};
-use blocking::{AsyncRead, AsyncReadExt, Executor, Host, IoFault, ReadJob, Unblock};
+use blocking::{AsyncRead, AsyncReadExt, Executor, Host, IoFault, ReadJob, Runtime, Unblock};
 use blocking_core::io::Fault;
 use blocking_core::pool::{Carries, Job};
 use futures::executor::block_on;
 use std::io;
 use std::io::ErrorKind;
+use std::random::RandomSource;
 use std::sync::Arc;
 use std::test::Fail;
 
@@ -36,14 +37,16 @@ const STEPS: &[Step] = &[
     Step::EndsBefore,
 ];
 
-type Owner<J, H> = Unblock<Planned, (), J, H>;
-
 fn is_io<T: Drop>(read: &Result<T, IoFault>, kind: ErrorKind) -> bool {
     matches!(read, Err(Fault::Io(error)) if error.kind() == kind)
 }
 
 // Whether one read into a buffer for one gives these bytes.
-fn reads<A: AsyncRead, H: Host>(rt: &H, owner: &mut A, bytes: &[u8]) -> io::Result<bool>
+fn reads<A: AsyncRead, H: Runtime + RandomSource>(
+    rt: &H,
+    owner: &mut A,
+    bytes: &[u8],
+) -> io::Result<bool>
     requires { A.closed owner.old → ⊥ }
 {
     let mut one = [0u8; 1];
@@ -52,7 +55,11 @@ fn reads<A: AsyncRead, H: Host>(rt: &H, owner: &mut A, bytes: &[u8]) -> io::Resu
 }
 
 // Whether a buffer for three is filled with these bytes; or where none are named, whether the end comes before.
-fn fills<A: AsyncRead, H: Host>(rt: &H, owner: &mut A, bytes: Option<&[u8]>) -> io::Result<bool>
+fn fills<A: AsyncRead, H: Runtime + RandomSource>(
+    rt: &H,
+    owner: &mut A,
+    bytes: Option<&[u8]>,
+) -> io::Result<bool>
     requires { A.closed owner.old → ⊥ }
 {
     let mut three = [0u8; 3];
@@ -64,7 +71,7 @@ fn fills<A: AsyncRead, H: Host>(rt: &H, owner: &mut A, bytes: Option<&[u8]>) -> 
 }
 
 // Whether a read to the end behind a `>` leaves these bytes, and ends well; or fails, where it is to.
-fn reads_on<A: AsyncRead, H: Host>(
+fn reads_on<A: AsyncRead, H: Runtime + RandomSource>(
     rt: &H,
     owner: &mut A,
     bytes: &[u8],
@@ -83,43 +90,59 @@ fn reads_on<A: AsyncRead, H: Host>(
     Ok(is_told && out.as_slice() == bytes)
 }
 
-// Whether a step shows what it must.
-fn shows<J: Job + Carries<ReadJob<Planned, H>>, H: Host>(
-    rt: &H,
-    owner: &mut Owner<J, H>,
-    step: Step,
-) -> io::Result<bool> {
-    if owner.is_closed() {
-        return Ok(false);
-    }
-    match step {
-        Step::Read(bytes) => reads(rt, owner, bytes),
-        Step::Exact(bytes) => fills(rt, owner, Some(bytes)),
-        Step::EndsBefore => fills(rt, owner, None),
-        Step::ToEnd(bytes) => reads_on(rt, owner, bytes, false),
-        Step::ToFault(bytes) => reads_on(rt, owner, bytes, true),
+// An owner that is read, and what it awaits by.
+#[derive(Drop)]
+struct Lent<J: Job, H: Runtime> {
+    rt: H,
+    owner: Unblock<Planned, (), J, H>,
+}
+
+// It promises nothing: a proof over any of these costs a part of what it costs over an `Unblock` itself.
+trait Shows: Drop {
+    // Whether a step shows what it must.
+    fn shows(&mut self, step: Step) -> io::Result<bool>;
+}
+
+impl<J: Job + Carries<ReadJob<Planned, H>>, H: Runtime + RandomSource> Shows for Lent<J, H> {
+    fn shows(&mut self, step: Step) -> io::Result<bool> {
+        let rt = self.rt;
+        let owner = &mut self.owner;
+        if owner.is_closed() {
+            return Ok(false);
+        }
+        match step {
+            Step::Read(bytes) => reads(&rt, owner, bytes),
+            Step::Exact(bytes) => fills(&rt, owner, Some(bytes)),
+            Step::EndsBefore => fills(&rt, owner, None),
+            Step::ToEnd(bytes) => reads_on(&rt, owner, bytes, false),
+            Step::ToFault(bytes) => reads_on(&rt, owner, bytes, true),
+        }
     }
 }
 
 // The place of the first step that shows something else than it must, if there is one.
-fn first_wrong<J: Job + Carries<ReadJob<Planned, H>>, H: Host>(
-    rt: &H,
-    owner: &mut Owner<J, H>,
-) -> io::Result<Option<usize>> {
+fn first_wrong<S: Shows>(mut owner: S) -> io::Result<Option<usize>> {
     for (place, step) in STEPS.iter().enumerate() {
-        if !shows(rt, owner, *step)? {
+        if !owner.shows(*step)? {
             return Ok(Some(place));
         }
     }
     Ok(None)
 }
 
-// The same, of an owner with a pipe of four.
-fn first_wrong_of_four<H: Host>(rt: H) -> Result<Option<usize>, Fail> {
-    let reader = Planned::new(Arc::new(rt.alloc(), Track::new())?, PLAN);
-    let executor: Executor<ReadJob<Planned, H>, H> = Executor::new(rt, Some("1"))?;
-    let mut owner: Owner<ReadJob<Planned, H>, H> = Unblock::with_capacity(4, executor, reader);
-    Ok(first_wrong(&rt, &mut owner)?)
+// An owner with a pipe of four.
+fn of_four<J: Job, H: Runtime>(rt: H, executor: Executor<J, H>) -> io::Result<Lent<J, H>> {
+    let reader = Planned::new(rt.alloc(), Arc::new(rt.alloc(), Track::new())?, PLAN)?;
+    let owner = Unblock::with_capacity(4, executor, reader);
+    Ok(Lent { rt, owner })
+}
+
+// The same, of such an owner.
+fn first_wrong_of_four<H: Host>(rt: H) -> io::Result<Option<usize>> {
+    match Executor::<ReadJob<Planned, H>, H>::new(rt, Some("1")) {
+        Ok(executor) => first_wrong(of_four(rt, executor)?),
+        Err(_) => Err(io::Error::from(ErrorKind::Other)),
+    }
 }
 
 #[test]

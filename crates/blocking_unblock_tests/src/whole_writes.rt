@@ -4,13 +4,14 @@ use crate::writer::Taken::{AtMost, Fails as FailsAt};
 use crate::writer::{Page, Plan, PlannedWriter};
 use crate::writes::Sight::{Count, Done, Fails, WritesNone};
 use crate::writes::{ALL, Came, Sight, counted, done};
-use blocking::{AsyncWrite, AsyncWriteExt, Executor, Host, Unblock, WriteJob};
+use blocking::{AsyncWrite, AsyncWriteExt, Executor, Host, Runtime, Unblock, WriteJob};
 use blocking_core::pool::{Carries, Job};
 use futures::executor::block_on;
 use futures::task::Poll;
 use std::io;
 use std::io::ErrorKind;
 use std::io::ErrorKind::{Interrupted, Other};
+use std::random::RandomSource;
 use std::sync::Arc;
 use std::test::Fail;
 
@@ -107,7 +108,7 @@ const ROWS: &[Row] = &[
 ];
 
 // How what a flush answers fits.
-fn flushes<H: Host, A: AsyncWrite>(
+fn flushes<H: Runtime + RandomSource, A: AsyncWrite>(
     rt: &H,
     owner: &mut A,
     sight: Sight,
@@ -116,12 +117,16 @@ fn flushes<H: Host, A: AsyncWrite>(
 }
 
 // How what a close answers fits.
-fn closes<H: Host, A: AsyncWrite>(rt: &H, owner: &mut A, sight: Sight) -> io::Result<Option<Came>> {
+fn closes<H: Runtime + RandomSource, A: AsyncWrite>(
+    rt: &H,
+    owner: &mut A,
+    sight: Sight,
+) -> io::Result<Option<Came>> {
     Ok(done(Poll::Ready(block_on(rt, owner.close())?), sight))
 }
 
 // How what one write answers fits.
-fn writes<H: Host, A: AsyncWrite>(
+fn writes<H: Runtime + RandomSource, A: AsyncWrite>(
     rt: &H,
     owner: &mut A,
     bytes: &[u8],
@@ -134,7 +139,7 @@ fn writes<H: Host, A: AsyncWrite>(
 }
 
 // How what a write of all bytes answers fits.
-fn writes_all<H: Host, A: AsyncWrite>(
+fn writes_all<H: Runtime + RandomSource, A: AsyncWrite>(
     rt: &H,
     owner: &mut A,
     bytes: &[u8],
@@ -148,51 +153,65 @@ fn writes_all<H: Host, A: AsyncWrite>(
 
 type Writing<H> = WriteJob<PlannedWriter<H>, H>;
 
-type Owner<J, H> = Unblock<PlannedWriter<H>, (), J, H>;
+// An owner that is written to, what it shares with its writer, and what it awaits by.
+#[derive(Drop)]
+struct Lent<J: Job, H: Runtime> {
+    rt: H,
+    owner: Unblock<PlannedWriter<H>, (), J, H>,
+    page: Arc<Page>,
+}
 
-// How what a step shows fits. (none where a closed owner would be asked for what it may not)
-fn shows<J: Job + Carries<Writing<H>>, H: Host>(
-    rt: &H,
-    owner: &mut Owner<J, H>,
-    page: &Page,
-    step: Step,
-) -> io::Result<Option<Came>> {
-    match step {
-        Flush(sight) => flushes(rt, owner, sight),
-        Close(sight) => closes(rt, owner, sight),
-        Holds(bytes) => Ok(Some(Came::if_right(page.holds(rt, bytes)))),
-        IsGone(wanted) => Ok(Some(Came::if_right(page.track.is_gone() == wanted))),
-        _ if owner.is_closed() => Ok(None),
-        Write(bytes, sight) => writes(rt, owner, bytes, sight),
-        WriteAll(bytes, sight) => writes_all(rt, owner, bytes, sight),
+// It promises nothing: a proof over any of these costs a part of what it costs over an `Unblock` itself.
+trait Shows: Drop {
+    // How what a step shows fits. (none where a closed owner would be asked for what it may not)
+    fn shows(&mut self, step: Step) -> io::Result<Option<Came>>;
+}
+
+impl<J: Job + Carries<Writing<H>>, H: Runtime + RandomSource> Shows for Lent<J, H> {
+    fn shows(&mut self, step: Step) -> io::Result<Option<Came>> {
+        let rt = self.rt;
+        let owner = &mut self.owner;
+        let page = &*self.page;
+        match step {
+            Flush(sight) => flushes(&rt, owner, sight),
+            Close(sight) => closes(&rt, owner, sight),
+            Holds(bytes) => Ok(Some(Came::if_right(page.holds(&rt, bytes)))),
+            IsGone(wanted) => Ok(Some(Came::if_right(page.track.is_gone() == wanted))),
+            _ if owner.is_closed() => Ok(None),
+            Write(bytes, sight) => writes(&rt, owner, bytes, sight),
+            WriteAll(bytes, sight) => writes_all(&rt, owner, bytes, sight),
+        }
     }
 }
 
 // The place of the first step that shows something else than it must, if there is one.
-fn first_wrong_of<J: Job + Carries<Writing<H>>, H: Host>(
-    rt: &H,
-    owner: &mut Owner<J, H>,
-    page: &Page,
-    steps: &[Step],
-) -> io::Result<Option<usize>> {
+fn first_wrong_of<S: Shows>(mut owner: S, steps: &[Step]) -> io::Result<Option<usize>> {
     for (place, step) in steps.iter().enumerate() {
-        let came = shows(rt, owner, page, *step)?;
-        if !came.is_some_and(Came::is_right) {
+        if !owner.shows(*step)?.is_some_and(Came::is_right) {
             return Ok(Some(place));
         }
     }
     Ok(None)
 }
 
-// The same, of a row, through a pipe of four.
-fn first_wrong<H: Host>(rt: H, row: &Row) -> io::Result<Option<usize>> {
+// The owner of a writer by this plan, through a pipe of four.
+fn of_four<J: Job, H: Runtime>(
+    rt: H,
+    executor: Executor<J, H>,
+    plan: Plan,
+) -> io::Result<Lent<J, H>> {
     let page = Arc::new(rt.alloc(), Page::new(rt.alloc()))?;
-    let writer = PlannedWriter::new(rt, Arc::try_clone(&page)?, row.plan);
-    let Ok(executor) = Executor::<Writing<H>, H>::new(rt, Some("1")) else {
-        return Err(io::Error::from(ErrorKind::Other));
-    };
-    let mut owner = Unblock::with_capacity(4, executor, writer);
-    first_wrong_of(&rt, &mut owner, &page, row.steps)
+    let writer = PlannedWriter::new(rt, rt.alloc(), Arc::try_clone(&page)?, plan)?;
+    let owner = Unblock::with_capacity(4, executor, writer);
+    Ok(Lent { rt, owner, page })
+}
+
+// The same, of a row.
+fn first_wrong<H: Host>(rt: H, row: &Row) -> io::Result<Option<usize>> {
+    match Executor::<Writing<H>, H>::new(rt, Some("1")) {
+        Ok(executor) => first_wrong_of(of_four(rt, executor, row.plan)?, row.steps),
+        Err(_) => Err(io::Error::from(ErrorKind::Other)),
+    }
 }
 
 #[test]

@@ -47,47 +47,67 @@ impl Page {
     }
 }
 
-/// A writer that goes by a plan, and can be read too.
+/// A writer that goes by a plan, and can be read too. (with what is planned as its own: a type that holds references of its own could not stand for a
+/// parameter of the players)
 pub(crate) struct PlannedWriter<R: Wait + Copy> {
     rt: R,
     page: Arc<Page>,
-    plan: Plan,
+    writes: Vec<Taken>,
+    flushes: Vec<Taken>,
+    reads: Vec<u8>,
+    // How much of each was done.
+    written: usize,
+    flushed: usize,
+    read: usize,
     // How many bytes it took.
     taken: usize,
 }
 
 impl<R: Wait + Copy> PlannedWriter<R> {
-    pub(crate) fn new(rt: R, page: Arc<Page>, plan: Plan) -> PlannedWriter<R> {
-        PlannedWriter {
+    pub(crate) fn new(
+        rt: R,
+        alloc: Global,
+        page: Arc<Page>,
+        plan: Plan,
+    ) -> io::Result<PlannedWriter<R>> {
+        Ok(PlannedWriter {
             rt,
             page,
-            plan,
+            writes: Vec::from_slice(alloc, plan.writes)?,
+            flushes: Vec::from_slice(alloc, plan.flushes)?,
+            reads: Vec::from_slice(alloc, plan.reads)?,
+            written: 0,
+            flushed: 0,
+            read: 0,
             taken: 0,
-        }
+        })
     }
 
     /// How many bytes it took.
     pub(crate) fn taken(&self) -> usize {
         self.taken
     }
+
+    // What is planned for the next write.
+    fn next_write(&mut self) -> Option<Taken> {
+        let next = self.writes.get(self.written).copied();
+        self.written = self.written.saturating_add(1);
+        next
+    }
 }
 
 impl<R: Wait + Copy> Write for PlannedWriter<R> {
     fn write(&mut self, buf: &[u8]) -> io::Result<usize> {
-        if let Some((Taken::Stops, rest)) = self.plan.writes.split_first() {
-            self.plan.writes = rest;
+        let mut next = self.next_write();
+        if let Some(Taken::Stops) = next {
             self.page.track.stop();
+            next = self.next_write();
         }
-        let most = match self.plan.writes.split_first() {
+        let most = match next {
             None => buf.len(),
-            Some((first, rest)) => {
-                self.plan.writes = rest;
-                match *first {
-                    Taken::AtMost(most) => most,
-                    Taken::Fails(kind) => return Err(io::Error::from(kind)),
-                    Taken::Stops => 0,
-                }
-            }
+            Some(Taken::AtMost(most)) => most,
+            Some(Taken::Fails(kind)) => return Err(io::Error::from(kind)),
+            Some(Taken::Stops) => 0,
         };
         let count = most.min(buf.len());
         self.page
@@ -99,22 +119,22 @@ impl<R: Wait + Copy> Write for PlannedWriter<R> {
     }
 
     fn flush(&mut self) -> io::Result<()> {
-        let Some((first, rest)) = self.plan.flushes.split_first() else {
-            return Ok(());
-        };
-        self.plan.flushes = rest;
-        match *first {
-            Taken::AtMost(_) | Taken::Stops => Ok(()),
-            Taken::Fails(kind) => Err(io::Error::from(kind)),
+        let next = self.flushes.get(self.flushed).copied();
+        self.flushed = self.flushed.saturating_add(1);
+        match next {
+            Some(Taken::Fails(kind)) => Err(io::Error::from(kind)),
+            Some(Taken::AtMost(_) | Taken::Stops) | None => Ok(()),
         }
     }
 }
 
 impl<R: Wait + Copy> Read for PlannedWriter<R> {
     fn read(&mut self, buf: &mut [u8]) -> io::Result<usize> {
-        let count = self.plan.reads.len().min(buf.len());
-        buf[..count].copy_from_slice(&self.plan.reads[..count]);
-        self.plan.reads = &self.plan.reads[count..];
+        let from = self.read.min(self.reads.len());
+        let rest = &self.reads[from..];
+        let count = rest.len().min(buf.len());
+        buf[..count].copy_from_slice(&rest[..count]);
+        self.read = self.read.saturating_add(count);
         Ok(count)
     }
 }
@@ -131,7 +151,12 @@ impl<R: Wait + Copy> Drop for PlannedWriter<R> {
         let PlannedWriter {
             rt: _,
             page,
-            plan: _,
+            writes: _,
+            flushes: _,
+            reads: _,
+            written: _,
+            flushed: _,
+            read: _,
             taken: _,
         } = self;
         page.track.leave();

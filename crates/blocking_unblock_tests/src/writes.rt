@@ -15,6 +15,7 @@ use futures::test::MockTask;
 use std::alloc::{AllocGlobal, Global};
 use std::io::ErrorKind;
 use std::io::ErrorKind::{Interrupted, Other};
+use std::random::RandomSource;
 use std::sync::Arc;
 use std::test::Fail;
 use std::{io, thread};
@@ -267,13 +268,119 @@ const ROWS: &[Row] = &[
     },
 ];
 
+/// The owner of a planned writer. It promises nothing: a proof over any of these costs a part of what it costs over an `Unblock` itself.
+trait Writes: std::ops::Drop {
+    /// What a poll of a step shows that doesn't wait. (none where it waits)
+    fn poll_step(&mut self, mock: &MockTask, step: Step, buffer: &mut [u8]) -> Option<Came>;
+
+    /// What a poll of a write shows; none of an owner that is closed.
+    fn poll_bytes(&mut self, mock: &MockTask, bytes: &[u8]) -> Option<Poll<Result<usize, IoFault>>>;
+
+    /// Whether its text is this.
+    fn says(&self, alloc: Global, wanted: &str) -> io::Result<bool>;
+}
+
+// How a count of a reader or a writer fits. (none where the poll waits)
+fn one_write<A: AsyncWrite>(
+    owner: &mut A,
+    cx: &mut Context<'_>,
+    bytes: &[u8],
+    sight: Sight,
+) -> Option<Came>
+    requires { A.closed owner.old → ⊥ }
+{
+    counted(owner.poll_write(cx, bytes), sight)
+}
+
+fn one_read<A: AsyncRead>(
+    owner: &mut A,
+    cx: &mut Context<'_>,
+    buffer: &mut [u8],
+    sight: Sight,
+) -> Option<Came>
+    requires { A.closed owner.old → ⊥ }
+{
+    counted(owner.poll_read(cx, buffer), sight)
+}
+
+// How the answer of a flush or a close fits.
+fn one_flush<A: AsyncWrite>(owner: &mut A, cx: &mut Context<'_>, sight: Sight) -> Option<Came> {
+    done(owner.poll_flush(cx), sight)
+}
+
+fn one_close<A: AsyncWrite>(owner: &mut A, cx: &mut Context<'_>, sight: Sight) -> Option<Came> {
+    done(owner.poll_close(cx), sight)
+}
+
 type Owner<J, H> = Unblock<PlannedWriter<H>, (), J, H>;
+
+// Whether the writer took so many bytes. (none where the poll waits)
+fn took<J: Job, H: Runtime>(
+    owner: &mut Owner<J, H>,
+    cx: &mut Context<'_>,
+    taken: usize,
+) -> Option<Came> {
+    if owner.is_closed() {
+        return Some(Came::Wrong);
+    }
+    match owner.poll_get_mut(cx) {
+        Poll::Ready(writer) => Some(Came::if_right(writer.taken() == taken)),
+        Poll::Pending => None,
+    }
+}
+
+// What one poll of a step shows.
+fn polled<J, H>(
+    owner: &mut Owner<J, H>,
+    cx: &mut Context<'_>,
+    step: Step,
+    buffer: &mut [u8],
+) -> Option<Came>
+where
+    J: Job + Carries<ReadJob<PlannedWriter<H>, H>> + Carries<WriteJob<PlannedWriter<H>, H>>,
+    H: Runtime,
+{
+    match step {
+        Flush(sight) => one_flush(owner, cx, sight),
+        Close(sight) => one_close(owner, cx, sight),
+        Handle(taken) => took(owner, cx, taken),
+        _ if owner.is_closed() => Some(Came::Wrong),
+        Write(bytes, sight) => one_write(owner, cx, bytes, sight),
+        Read(_, _, sight) => one_read(owner, cx, buffer, sight),
+        _ => Some(Came::Wrong),
+    }
+}
+
+impl<J, H> Writes for Unblock<PlannedWriter<H>, (), J, H>
+where
+    J: Job + Carries<ReadJob<PlannedWriter<H>, H>> + Carries<WriteJob<PlannedWriter<H>, H>>,
+    H: Runtime,
+{
+    fn poll_step(&mut self, mock: &MockTask, step: Step, buffer: &mut [u8]) -> Option<Came> {
+        mock.enter(|cx| polled(self, cx, step, buffer))
+    }
+
+    fn poll_bytes(
+        &mut self,
+        mock: &MockTask,
+        bytes: &[u8],
+    ) -> Option<Poll<Result<usize, IoFault>>> {
+        if self.is_closed() {
+            return None;
+        }
+        Some(mock.enter(|cx| self.poll_write(cx, bytes)))
+    }
+
+    fn says(&self, alloc: Global, wanted: &str) -> io::Result<bool> {
+        Ok(format!(in alloc; "{self:?}")?.as_str() == wanted)
+    }
+}
 
 // An owner, what it shares with its writer, and the task that polls it.
 #[derive(Drop)]
-struct Scene<J: Job, H: Runtime> {
+struct Scene<O: Writes, H: Runtime> {
     rt: H,
-    owner: Option<Owner<J, H>>,
+    owner: Option<O>,
     page: Arc<Page>,
     mock: MockTask,
 }
@@ -321,17 +428,18 @@ fn failed(why: IoFault, sight: Sight) -> Came {
     }
 }
 
-impl<J, H> Scene<J, H>
-where
-    J: Job + Carries<ReadJob<PlannedWriter<H>, H>> + Carries<WriteJob<PlannedWriter<H>, H>>,
-    H: Host,
-{
+impl<O: Writes, H: Runtime> Scene<O, H> {
     // What a poll shows that doesn't wait. (none where it waits)
     fn poll(&mut self, step: Step, buffer: &mut [u8]) -> Option<Came> {
-        let Some(owner) = &mut self.owner else {
-            return Some(Came::Wrong);
-        };
-        self.mock.enter(|cx| polled(owner, cx, step, buffer))
+        match &mut self.owner {
+            Some(owner) => owner.poll_step(&self.mock, step, buffer),
+            None => Some(Came::Wrong),
+        }
+    }
+
+    // What a poll of a write shows; none where there is no owner, or a closed one.
+    fn write(&mut self, bytes: &[u8]) -> Option<Poll<Result<usize, IoFault>>> {
+        self.owner.as_mut()?.poll_bytes(&self.mock, bytes)
     }
 
     fn calls(&mut self, step: Step, buffer: &mut [u8]) -> Came {
@@ -354,14 +462,9 @@ where
             if rest.is_empty() {
                 return true;
             }
-            let owner = &mut self.owner;
-            let came = self.mock.enter(|cx| match owner {
-                Some(owner) if !owner.is_closed() => owner.poll_write(cx, rest),
-                _ => Poll::Ready(Ok(0)),
-            });
-            match came {
-                Poll::Pending if woken(&self.mock) => {}
-                Poll::Ready(Ok(count)) if count > 0 => taken = taken.saturating_add(count),
+            match self.write(rest) {
+                Some(Poll::Pending) if woken(&self.mock) => {}
+                Some(Poll::Ready(Ok(count))) if count > 0 => taken = taken.saturating_add(count),
                 _ => return false,
             }
         }
@@ -370,7 +473,7 @@ where
 
     fn says(&self, alloc: Global, wanted: &str) -> io::Result<bool> {
         match &self.owner {
-            Some(owner) => Ok(format!(in alloc; "{owner:?}")?.as_str() == wanted),
+            Some(owner) => owner.says(alloc, wanted),
             None => Ok(false),
         }
     }
@@ -409,47 +512,50 @@ where
     }
 }
 
-// What one poll of a step shows.
-fn polled<J, H>(
-    owner: &mut Owner<J, H>,
-    cx: &mut Context<'_>,
-    step: Step,
-    buffer: &mut [u8],
-) -> Option<Came>
-where
-    J: Job + Carries<ReadJob<PlannedWriter<H>, H>> + Carries<WriteJob<PlannedWriter<H>, H>>,
-    H: Host,
-{
-    match step {
-        Flush(sight) => done(owner.poll_flush(cx), sight),
-        Close(sight) => done(owner.poll_close(cx), sight),
-        _ if owner.is_closed() => Some(Came::Wrong),
-        Write(bytes, sight) => counted(owner.poll_write(cx, bytes), sight),
-        Read(_, _, sight) => counted(owner.poll_read(cx, buffer), sight),
-        Handle(taken) => match owner.poll_get_mut(cx) {
-            Poll::Ready(writer) => Some(Came::if_right(writer.taken() == taken)),
-            Poll::Pending => None,
-        },
-        _ => Some(Came::Wrong),
-    }
+// An owner over this executor, through a pipe for so much.
+fn owner<J: Job, H: Runtime>(
+    executor: Executor<J, H>,
+    capacity: usize,
+    writer: PlannedWriter<H>,
+) -> Owner<J, H> {
+    Unblock::with_capacity(capacity.max(1), executor, writer)
 }
 
-/// The place of the first step of a row that shows something else than it must, if there is one.
-pub(crate) fn first_wrong<H: Host>(rt: H, row: &Row) -> io::Result<Option<usize>> {
-    let page = Arc::new(rt.alloc(), Page::new(rt.alloc()))?;
-    let writer = PlannedWriter::new(rt, Arc::try_clone(&page)?, row.plan);
+/// The place of the first step that shows something else than it must, if there is one.
+fn play<O: Writes, H: Runtime + RandomSource>(
+    rt: H,
+    owner: O,
+    page: Arc<Page>,
+    steps: &[Step],
+) -> io::Result<Option<usize>> {
     let mock = MockTask::new(&rt)?;
-    let Ok(executor) = Executor::<Both<PlannedWriter<H>, H>, H>::new(rt, Some("1")) else {
-        return Err(io::Error::from(ErrorKind::Other));
-    };
-    let capacity = row.capacity.max(1);
+    let owner = Some(owner);
     let mut scene = Scene {
         rt,
-        owner: Some(Unblock::with_capacity(capacity, executor, writer)),
+        owner,
         page,
         mock,
     };
-    scene.first_wrong(row.steps)
+    scene.first_wrong(steps)
+}
+
+// The same, of a row over an executor.
+fn first_wrong_in<J, H>(rt: H, executor: Executor<J, H>, row: &Row) -> io::Result<Option<usize>>
+where
+    J: Job + Carries<ReadJob<PlannedWriter<H>, H>> + Carries<WriteJob<PlannedWriter<H>, H>>,
+    H: Runtime + RandomSource,
+{
+    let page = Arc::new(rt.alloc(), Page::new(rt.alloc()))?;
+    let writer = PlannedWriter::new(rt, rt.alloc(), Arc::try_clone(&page)?, row.plan)?;
+    play(rt, owner(executor, row.capacity, writer), page, row.steps)
+}
+
+/// The same, over an executor of its own.
+pub(crate) fn first_wrong<H: Host>(rt: H, row: &Row) -> io::Result<Option<usize>> {
+    match Executor::<Both<PlannedWriter<H>, H>, H>::new(rt, Some("1")) {
+        Ok(executor) => first_wrong_in(rt, executor, row),
+        Err(_) => Err(io::Error::from(ErrorKind::Other)),
+    }
 }
 
 #[test]
