@@ -20,10 +20,10 @@ fn writer<H: Host>(rt: H) -> io::Result<Writer<Sheet, H>> {
 }
 
 // Whether a word is written.
-fn writes<A: AsyncWrite, H: Runtime + RandomSource>(rt: &H, open: &mut A) -> io::Result<bool>
-    requires { A.closed open.old → ⊥ }
+fn writes<A: AsyncWrite, H: Runtime + RandomSource>(rt: &H, writer: &mut A) -> io::Result<bool>
+    requires { A.closed writer.old → ⊥ }
 {
-    Ok(block_on(rt, open.write_all("oak".as_bytes()))?.is_ok())
+    Ok(block_on(rt, writer.write_all("oak".as_bytes()))?.is_ok())
 }
 
 // Whether it closes.
