@@ -1,5 +1,5 @@
 //! Calls in a row, through the named futures. Nothing between them asks whether the owner is open: they are written over anything that is never
-//! closed, which costs a part of what a proof over an owner itself does, and made of owners.
+//! closed, which costs less to prove (docs/GATE.md), and then made of owners.
 use crate::handle::Sheet;
 use blocking::{
     AsyncRead, AsyncReadExt, AsyncSeek, AsyncSeekExt, AsyncWrite, AsyncWriteExt, Executor, Host,

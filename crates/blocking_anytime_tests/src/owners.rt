@@ -77,22 +77,37 @@ impl<J: Job, H: Runtime> Future for Look<J, H> {
     }
 }
 
-// The handle is with its owner, then with a job, and comes back: whether it is there, and how often it was flushed.
+// Whether the handle is there as it is lent and comes back, whether a word was written meanwhile, and how often it was flushed.
+#[derive(Clone, Copy)]
+struct InPlace {
+    at_first: bool,
+    is_written: bool,
+    while_lent: bool,
+    flushes: u32,
+    at_last: bool,
+}
+
+// The handle is with its owner, then with a job, and comes back.
 fn in_its_place_of<J: Job + Carries<WriteJob<Sheet, H>>, H: Runtime + RandomSource>(
     rt: H,
     mut open: Open<Sheet, (), J, H>,
-) -> io::Result<(bool, bool, u32, bool)> {
+) -> io::Result<InPlace> {
     let at_first = open.handle_mut().is_some();
     let is_written = writes(&rt, &mut open);
     let while_lent = open.handle_mut().is_some();
     let mut look = Look { open };
     let flushes = block_on(&rt, &mut look);
     let at_last = look.open.handle_mut().is_some();
-    let is_well = is_written? && at_first;
-    Ok((is_well, while_lent, flushes?, at_last))
+    Ok(InPlace {
+        at_first,
+        is_written: is_written?,
+        while_lent,
+        flushes: flushes?,
+        at_last,
+    })
 }
 
-fn in_its_place<H: Host>(rt: H) -> io::Result<(bool, bool, u32, bool)> {
+fn in_its_place<H: Host>(rt: H) -> io::Result<InPlace> {
     let sheet = Sheet::new(rt.alloc(), "....")?;
     let executor: Executor<WriteJob<Sheet, H>, H> = Executor::new(rt, Some("1"))?;
     let open: OpenWriter<Sheet, H> = Open::new(executor, sheet);
@@ -101,6 +116,12 @@ fn in_its_place<H: Host>(rt: H) -> io::Result<(bool, bool, u32, bool)> {
 
 #[test]
 fn the_handle_is_lent_and_comes_back(rt: HostRuntime) -> Result<(), Fail> {
-    assert_eq!(rt; in_its_place(rt)?, (true, false, 1, true));
+    let seen = in_its_place(rt)?;
+    assert!(rt; seen.is_written);
+    assert_eq!(rt;
+        (seen.at_first, seen.while_lent, seen.at_last),
+        (true, false, true)
+    );
+    assert_eq!(rt; seen.flushes, 1);
     Ok(())
 }

@@ -51,7 +51,7 @@ module _ {J : Type 0} where
   Adds asking old client job answer new bell =
       (added : Pool J) × pool.Adds asking old client job answer added × Rings added bell new
 
-  -- a job is added, and what tells that it entered names its client
+  -- a job is added, and what tells that it was added names its client
   abbrev pub AddsFor : Asking → Pool J → ℕ → J → Result Added (Refused J) → Pool J → BellKind → Type 0
   AddsFor asking old client job (Ok entered) new bell = Adds asking old client job (Ok entered.number) new bell × (entered.client ≡ client)
   AddsFor asking old client job (Err refused) new bell = Adds asking old client job (Err refused) new bell

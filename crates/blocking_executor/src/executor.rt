@@ -186,7 +186,7 @@ impl<J: Job, H: Runtime> Executor<J, H> {
     /// Adds a job of this share's client, as [`add_for`](Executor::add_for) does.
     pub fn add(&self, job: J) -> Result<Added, Refused<J>>
         ensures refused { IfErr result (λ refused. refused.back ≡ job) }
-        ensures client { IfOk result (λ entered. entered.client ≡ self.now.client) }
+        ensures client { IfOk result (λ added. added.client ≡ self.now.client) }
     {
         self.add_for(self.client, job)
     }
@@ -194,7 +194,7 @@ impl<J: Job, H: Runtime> Executor<J, H> {
     /// Adds a job of a client, as [`Pool::add_for`](blocking_core::pool::Pool::add_for): a refused job is handed back.
     pub fn add_for(&self, client: u32, job: J) -> Result<Added, Refused<J>>
         ensures refused { IfErr result (λ refused. refused.back ≡ job) }
-        ensures client { IfOk result (λ entered. entered.client ≡ client) }
+        ensures client { IfOk result (λ added. added.client ≡ client) }
     {
         let mut starter = self.starter();
         // schedule: Add, or Nothing
@@ -341,7 +341,7 @@ pub fn set_max_blocking_threads<J: Job, H: Runtime>(executor: &Executor<J, H>, t
 
 /// Sets the limit of running jobs for each client, as it is: none, or a number above 0. It holds for jobs that are taken from now on. A lowered
 /// limit stops no running job, and its client's next one waits until fewer run than it says. All idle workers are notified where the limit was raised or
-/// let go.
+/// let go. This call holds the pool's lock while it goes through the clients where a limit is to stand, and through all queued jobs where one begins or goes.
 ///
 /// A job's client is the one that [`unblock_for`](crate::unblock_for) or [`add_for`](Executor::add_for) names, else that of the share which added it: 0, unless
 /// [`for_client`](Executor::for_client) named another.

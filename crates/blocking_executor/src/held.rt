@@ -72,7 +72,7 @@ impl<J: Job> Held<J> {
     {
         let (answer, bell) = self.add_for(0, job, starter);
         match answer {
-            Ok(entered) => (Ok(entered.number), bell),
+            Ok(added) => (Ok(added.number), bell),
             Err(refused) => (Err(refused), bell),
         }
     }

@@ -1,4 +1,4 @@
--- The bytes that an event carries, and how many a step's event may carry at most: so the room for a copy of them is had before it acts.
+-- The bytes that an event carries, and how many a step's event may carry at most: so the room for a copy of them is made before it acts.
 use Rattle.std.specs.Prelude.{ℕ, Bool, true, false, List, [], length, slice_get, Option, Some, None}
 use Rattle.blocking_lanes.specs.Owners.{Owner, bytes_in, front_in, next_of}
 use Rattle.blocking_lanes.specs.declared.owner.OwnerNext.{OwnerNext}

@@ -240,8 +240,9 @@ impl<J: Job> Pool<J> {
     }
 
     /// Puts the parked jobs that bear a mark back at the queue's end, in the order in which they were accepted, and answers
-    /// how many they were. Where there were any, the pool grows once. This is the one call that goes through many jobs: through
-    /// those that are parked.
+    /// how many they were. Where there were any, the pool grows once. Only this call and [`Pool::set_client_limit`] go through
+    /// many jobs: this one through those that are parked, that one through those that are queued, where a client limit begins
+    /// or goes.
     pub fn sweep<S: Starter>(&mut self, starter: &mut S) -> usize
         ensures answer { Sweeps J.may_answer (asked S.Starter starter.old starter.new)
             self.old result self.new }
@@ -357,7 +358,7 @@ impl<J: Job> Pool<J> {
     /// Sets how many jobs of each client may run at a time, or lets any number run. Where the limit rises, all waiting
     /// workers are notified, since jobs may be ready that weren't. A lower limit stops no running job: its client has room
     /// again when so many of its jobs have ended that fewer run than the limit. The pool doesn't grow. This goes through
-    /// the clients that have jobs, and through the queued jobs where no limit stood or none is to stand.
+    /// the clients where a limit is to stand, and through the queue where one begins or goes.
     pub fn set_client_limit(&mut self, limit: Option<usize>)
         requires { IfSome limit (λ most. 0 < most) }
         ensures { SetsClientLimit limit self.old self.new }

@@ -87,10 +87,10 @@ fn enter<K: Drop, J: Job + Carries<K>, H: Runtime>(
     job: K,
 ) -> Result<Added, Refused<K>>
     ensures refused { IfErr result (λ refused. refused.back ≡ job) }
-    ensures client { IfOk result (λ entered. entered.client ≡ executor.now.client) }
+    ensures client { IfOk result (λ added. added.client ≡ executor.now.client) }
 {
     match executor.add(J::wrap(job)) {
-        Ok(entered) => Ok(entered),
+        Ok(added) => Ok(added),
         Err(refused) => Err(refused.unwrap()),
     }
 }

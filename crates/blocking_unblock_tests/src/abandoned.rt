@@ -180,11 +180,11 @@ fn case_of(number: usize) -> Option<Case> {
 // How many cases there are.
 const CASES: usize = 3 * 5 * 8 * 8;
 
-/// The number of the first case that doesn't go as it must. (it says which calls these are: see `case_of`)
+/// The number of the first case that doesn't go as it must, or that the tables don't have. (it says which calls these are: see `case_of`)
 pub(crate) fn first_wrong<S: Lender>(root: &S) -> io::Result<Option<usize>> {
     for number in 0..CASES {
         let Some(case) = case_of(number) else {
-            return Ok(None);
+            return Ok(Some(number));
         };
         if !is_right(root, case)? {
             return Ok(Some(number));

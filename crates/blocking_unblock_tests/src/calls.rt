@@ -9,7 +9,7 @@ use std::io;
 use std::sync::Arc;
 
 /// What an owner is asked for.
-#[derive(Clone, Copy, PartialEq, Eq, Debug)]
+#[derive(Clone, Copy, PartialEq, Eq)]
 pub(crate) enum Call {
     /// One byte.
     Read,

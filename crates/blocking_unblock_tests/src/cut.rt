@@ -1,5 +1,5 @@
 //! Sessions whose job is dropped beside its owner, which no pool does by itself: a job type of the test's own lets its job go.
-use crate::endless::{Begins, Endless, Held, Pace, Starts, Tally, Touch, hold};
+use crate::endless::{Begins, Endless, Owned, Pace, Starts, Tally, Touch, hold};
 use crate::reader::Given::{Bytes, Stops as Stop};
 use crate::reader::{Planned, Track};
 use crate::scene::Sight::Waits;
@@ -196,7 +196,7 @@ fn is_told_in<J: Begins<Endless<H>, H>, K: Job + Carries<J>, H: Runtime + Random
 ) -> io::Result<bool> {
     let tally = Arc::new(rt.alloc(), Tally::new())?;
     let handle = Endless::new(rt, &tally, Pace::Stops)?;
-    let owner: Held<Endless<H>, J, K, H> = hold(pool, 4, handle)?;
+    let owner: Owned<Endless<H>, J, K, H> = hold(pool, 4, handle)?;
     is_told_of(rt, owner, &tally)
 }
 

@@ -272,7 +272,7 @@ pub(crate) fn comes_true<F: Fn() -> bool>(is_so: F) -> bool
     false
 }
 
-/// An owner whose sessions begin in one way. It promises nothing: a proof over any of these costs a part of what it costs over an `Unblock` itself.
+/// An owner whose sessions begin in one way. It promises nothing.
 pub(crate) trait Starts: Drop {
     /// Polls for its session. Whether that waits.
     fn begin(&mut self, mock: &mut MockTask) -> bool;
@@ -281,8 +281,8 @@ pub(crate) trait Starts: Drop {
     fn waits_idle(&mut self, mock: &MockTask) -> bool;
 }
 
-/// The same, with the pool that it lends to.
-pub(crate) trait Begun<T>: Starts {
+/// Such an owner with the pool that it lends to: it makes others over that.
+pub(crate) trait LendsOn<T>: Starts {
     /// The owner of another handle, over the same pool. No capacity is the default.
     fn lend(&self, capacity: usize, handle: T) -> io::Result<Self>;
 
@@ -301,7 +301,7 @@ pub(crate) trait Begun<T>: Starts {
 
 /// An owner over a pool of jobs `K`, whose sessions are those of `J`.
 #[derive(Drop)]
-pub(crate) struct Held<T: Drop, J: Job, K: Job, H: Runtime> {
+pub(crate) struct Owned<T: Drop, J: Job, K: Job, H: Runtime> {
     pool: Executor<K, H>,
     owner: Unblock<T, u8, K, H>,
     job: PhantomData<J>,
@@ -312,9 +312,9 @@ pub(crate) fn hold<T: Drop, J: Job, K: Job, H: Runtime>(
     pool: &Executor<K, H>,
     capacity: usize,
     handle: T,
-) -> io::Result<Held<T, J, K, H>> {
+) -> io::Result<Owned<T, J, K, H>> {
     let (kept, shared) = (pool.try_clone()?, pool.try_clone()?);
-    Ok(Held {
+    Ok(Owned {
         pool: kept,
         owner: if capacity > 0 {
             Unblock::with_capacity(capacity, shared, handle)
@@ -325,7 +325,7 @@ pub(crate) fn hold<T: Drop, J: Job, K: Job, H: Runtime>(
     })
 }
 
-impl<T: Drop, J: Begins<T, H>, K: Job + Carries<J>, H: Runtime> Starts for Held<T, J, K, H> {
+impl<T: Drop, J: Begins<T, H>, K: Job + Carries<J>, H: Runtime> Starts for Owned<T, J, K, H> {
     fn begin(&mut self, mock: &mut MockTask) -> bool {
         J::begin(&mut self.owner, mock)
     }
@@ -336,8 +336,8 @@ impl<T: Drop, J: Begins<T, H>, K: Job + Carries<J>, H: Runtime> Starts for Held<
     }
 }
 
-impl<T: Drop, J: Begins<T, H>, H: Runtime + RandomSource> Begun<T> for Held<T, J, Beside<J>, H> {
-    fn lend(&self, capacity: usize, handle: T) -> io::Result<Held<T, J, Beside<J>, H>> {
+impl<T: Drop, J: Begins<T, H>, H: Runtime + RandomSource> LendsOn<T> for Owned<T, J, Beside<J>, H> {
+    fn lend(&self, capacity: usize, handle: T) -> io::Result<Owned<T, J, Beside<J>, H>> {
         hold(&self.pool, capacity, handle)
     }
 
@@ -355,7 +355,7 @@ impl<T: Drop, J: Begins<T, H>, H: Runtime + RandomSource> Begun<T> for Held<T, J
     }
 
     fn taken_back(self) -> io::Result<Option<T>> {
-        let Held {
+        let Owned {
             pool,
             owner,
             job: _,
@@ -368,7 +368,7 @@ impl<T: Drop, J: Begins<T, H>, H: Runtime + RandomSource> Begun<T> for Held<T, J
 }
 
 /// Whether no job is queued or runs in the pool of this owner, before long.
-pub(crate) fn rests<T, S: Begun<T>>(root: &S) -> bool {
+pub(crate) fn rests<T, S: LendsOn<T>>(root: &S) -> bool {
     comes_true(|| root.is_at_rest())
 }
 
@@ -378,7 +378,7 @@ pub(crate) fn root<T: Drop, J: Job + Send + 'static, H: Host>(
     rt: H,
     workers: &str,
     handle: T,
-) -> io::Result<Held<T, J, Beside<J>, H>> {
+) -> io::Result<Owned<T, J, Beside<J>, H>> {
     match Executor::<Beside<J>, H>::new(rt, Some(workers)) {
         Ok(pool) => hold(&pool, 4, handle),
         Err(_) => Err(io::Error::from(io::ErrorKind::Other)),

@@ -55,7 +55,7 @@ fn new_lent<J: Job, H: Runtime>(
     Ok(Lent { rt, owner })
 }
 
-// An owner that is read, sought or written. These promise nothing: a proof over any of them costs a part of what it costs over an `Unblock` itself.
+// An owner that is read, sought or written. These promise nothing.
 trait ToRead: Drop {
     // What one read shows, and the byte that came; none of an owner that is closed.
     fn read_one(&mut self) -> io::Result<Option<(Shown, u8)>>;

@@ -131,7 +131,7 @@ fn no_items_are_the_end(rt: HostRuntime) -> Result<(), Fail> {
     Ok(())
 }
 
-// The owner of such numbers. It promises nothing: a proof over any of these costs a part of what it costs over an `Unblock` itself.
+// The owner of such numbers. It promises nothing.
 trait Gives: Drop {
     // What one poll for an item shows; a poll of a closed owner shows that it waits.
     fn poll_item(&mut self, mock: &MockTask) -> Poll<Option<Result<u64, Refusal>>>;

@@ -1,6 +1,7 @@
 //! Owners that leave their sessions: what they lent is free at once, and no more is read for them than was under way.
 use crate::endless::{
-    Begins, Begun, Beside, Endless, Held, Pace, Starts, Tally, Touch, comes_true, hold, rests, root,
+    Begins, Beside, Endless, LendsOn, Owned, Pace, Starts, Tally, Touch, comes_true, hold, rests,
+    root,
 };
 use crate::reader::{Planned, Track};
 use blocking::{Executor, Host, ItemJob, OpJob, ReadJob, Runtime, SeekJob, WriteJob};
@@ -22,8 +23,8 @@ const OWNERS: usize = 300;
 // How many calls are made beside, one each 20 ms, before a test says that handles are left: for two seconds.
 const CALLS: usize = 100;
 
-// How many handles are still there once the calls were made.
-fn left_beside_calls<T, S: Begun<T>, R: Clock>(rt: &R, root: &S, tally: &Tally) -> usize {
+// How many handles are still there once the calls were made, in the pool of this owner.
+fn left_beside_calls<T, S: LendsOn<T>, R: Clock>(rt: &R, root: &S, tally: &Tally) -> usize {
     for _ in 0..CALLS {
         if tally.gone() >= OWNERS {
             return 0;
@@ -34,8 +35,9 @@ fn left_beside_calls<T, S: Begun<T>, R: Clock>(rt: &R, root: &S, tally: &Tally) 
     OWNERS.saturating_sub(tally.gone())
 }
 
-// Many owners, whose jobs all wait, leave at once. How many handles are left, or none where the jobs don't come to wait.
-fn left_of<S: Begun<Endless<H>>, H: Runtime + RandomSource>(
+// Many owners over the pool of this one, whose jobs all wait, leave at once. How many handles are left, or none where the jobs don't come to
+// wait.
+fn left_of<S: LendsOn<Endless<H>>, H: Runtime + RandomSource>(
     rt: H,
     root: &S,
 ) -> io::Result<Option<usize>> {
@@ -58,12 +60,12 @@ fn left_of<S: Begun<Endless<H>>, H: Runtime + RandomSource>(
 fn root_of<J: Job + Send + 'static, H: Host>(
     rt: H,
     workers: &str,
-) -> io::Result<Held<Endless<H>, J, Beside<J>, H>> {
+) -> io::Result<Owned<Endless<H>, J, Beside<J>, H>> {
     let tally = Arc::new(rt.alloc(), Tally::new())?;
     root(rt, workers, Endless::new(rt, &tally, Pace::AtOnce)?)
 }
 
-// Whether all handles of many owners go, at this limit.
+// How many handles of many owners are left, as `left_of` says, over a pool of its own at this limit.
 fn all_go<J: Begins<Endless<H>, H> + Send + 'static, H: Host>(
     rt: H,
     limit: &str,
@@ -82,8 +84,8 @@ fn parked_sessions_go_with_their_owners(rt: HostRuntime) -> Result<(), Fail> {
     Ok(())
 }
 
-// How many calls of a handle are made after its owner is gone, where each lasts 10 ms; none where they don't come.
-fn calls_after_of<S: Begun<Endless<H>>, H: Runtime + RandomSource>(
+// How many calls of a handle are made after its owner is gone, where each lasts 10 ms; none where they don't come. Over the pool of this owner.
+fn calls_after_of<S: LendsOn<Endless<H>>, H: Runtime + RandomSource>(
     rt: H,
     root: &S,
 ) -> io::Result<Option<usize>> {
@@ -102,6 +104,7 @@ fn calls_after_of<S: Begun<Endless<H>>, H: Runtime + RandomSource>(
     Ok(Some(tally.calls().saturating_sub(before)))
 }
 
+// The same, over a pool of its own, of one worker.
 fn calls_after<J: Begins<Endless<H>, H> + Send + 'static, H: Host>(
     rt: H,
 ) -> io::Result<Option<usize>> {
@@ -208,21 +211,21 @@ impl<R: Wait + Copy> Late<R> {
 
 // What is seen of a writer, and a call that may stand before it.
 #[derive(Drop)]
-struct Desk {
+struct Watched {
     flushed: Arc<Flushed>,
     call: Arc<Track>,
 }
 
-impl Desk {
-    fn new(alloc: Global) -> io::Result<Desk> {
-        Ok(Desk {
+impl Watched {
+    fn new(alloc: Global) -> io::Result<Watched> {
+        Ok(Watched {
             flushed: Arc::new(alloc, Flushed::new(alloc))?,
             call: Arc::new(alloc, Track::new())?,
         })
     }
 
     // An owner who has written four bytes, and whose job is there.
-    fn owner<S: Begun<Late<H>>, H: Runtime + RandomSource>(
+    fn owner<S: LendsOn<Late<H>>, H: Runtime + RandomSource>(
         &self,
         rt: H,
         root: &S,
@@ -244,7 +247,7 @@ impl Desk {
     }
 
     // Whether the writer goes once its owner has left, and has flushed these bytes.
-    fn flushes<S: Begun<Late<H>>, H: Runtime + RandomSource>(
+    fn flushes<S: LendsOn<Late<H>>, H: Runtime + RandomSource>(
         &self,
         rt: H,
         root: &S,
@@ -258,13 +261,14 @@ impl Desk {
     }
 }
 
-// The same, in a pool of one worker.
+// The same, over a pool of its own, of one worker.
 fn flushes<H: Host>(rt: H, leaves: Leaves, wanted: &[u8]) -> io::Result<bool> {
-    let desk = Desk::new(rt.alloc())?;
-    let other = Arc::new(rt.alloc(), Flushed::new(rt.alloc()))?;
-    let writer = Late::new(rt, rt.alloc(), &other, false)?;
+    let watched = Watched::new(rt.alloc())?;
+    // (what is seen of the first owner's writer, which is never lent)
+    let of_first = Arc::new(rt.alloc(), Flushed::new(rt.alloc()))?;
+    let writer = Late::new(rt, rt.alloc(), &of_first, false)?;
     let root = root::<_, WriteJob<Late<H>, H>, H>(rt, "1", writer)?;
-    desk.flushes(rt, &root, leaves, wanted)
+    watched.flushes(rt, &root, leaves, wanted)
 }
 
 #[test]
@@ -345,8 +349,9 @@ fn flushes_where_seated<S: Starts, H: Runtime + RandomSource>(
     Ok(if is_in_time { Some(flushes) } else { None })
 }
 
-type Seated<K, H> = Held<Late<H>, WriteJob<Late<H>, H>, K, H>;
+type Seated<K, H> = Owned<Late<H>, WriteJob<Late<H>, H>, K, H>;
 
+// The same, of an owner over this pool.
 fn flushes_in<K: Job + Carries<WriteJob<Late<H>, H>>, H: Runtime + RandomSource>(
     rt: H,
     pool: &Executor<K, H>,
@@ -357,6 +362,7 @@ fn flushes_in<K: Job + Carries<WriteJob<Late<H>, H>>, H: Runtime + RandomSource>
     flushes_where_seated(rt, owner, &flushed)
 }
 
+// The same, over a pool of its own, of one worker.
 fn flushes_in_time<H: Host>(rt: H) -> io::Result<Option<bool>> {
     match Executor::<Stays<WriteJob<Late<H>, H>>, H>::new(rt, Some("1")) {
         Ok(pool) => flushes_in(rt, &pool),
@@ -378,8 +384,8 @@ fn writer_that_is_seated_and_runs_flushes_all(rt: HostRuntime) -> Result<(), Fai
     panic!(rt; "the machine is too slow")
 }
 
-// Whether a reader whose job is over goes as its owner is dropped, by this thread.
-fn goes_at_once_of<S: Begun<Planned>, H: Runtime + RandomSource>(
+// Whether a reader whose job is over goes as its owner is dropped, by this thread. Over the pool of this owner.
+fn goes_at_once_of<S: LendsOn<Planned>, H: Runtime + RandomSource>(
     rt: H,
     root: &S,
 ) -> io::Result<bool> {
@@ -395,6 +401,7 @@ fn goes_at_once_of<S: Begun<Planned>, H: Runtime + RandomSource>(
     Ok(track.is_gone())
 }
 
+// The same, over a pool of its own, of one worker.
 fn goes_at_once<H: Host>(rt: H) -> io::Result<bool> {
     let reader = Planned::new(rt.alloc(), Arc::new(rt.alloc(), Track::new())?, &[])?;
     let root = root::<_, ReadJob<Planned, H>, H>(rt, "1", reader)?;
@@ -417,7 +424,7 @@ struct Busy {
 
 impl Busy {
     // The worker of this owner's pool comes to be so.
-    fn new<S: Begun<Endless<H>>, H: Runtime + RandomSource>(rt: H, root: &S) -> io::Result<Busy> {
+    fn new<S: LendsOn<Endless<H>>, H: Runtime + RandomSource>(rt: H, root: &S) -> io::Result<Busy> {
         let busy = Busy {
             call: Arc::new(rt.alloc(), Track::new())?,
             tally: Arc::new(rt.alloc(), Tally::new())?,
@@ -429,8 +436,8 @@ impl Busy {
     }
 }
 
-// How many calls are made of a handle whose owner leaves while its job is queued; None where it doesn't go.
-fn calls_of<S: Begun<Endless<H>>, H: Runtime + RandomSource>(
+// How many calls are made of a handle whose owner leaves while its job is queued; None where it doesn't go. Over the pool of this owner.
+fn calls_of<S: LendsOn<Endless<H>>, H: Runtime + RandomSource>(
     rt: H,
     root: &S,
 ) -> io::Result<Option<usize>> {
@@ -446,6 +453,7 @@ fn calls_of<S: Begun<Endless<H>>, H: Runtime + RandomSource>(
     Ok(Some(tally.calls()))
 }
 
+// The same, over a pool of its own, of one worker.
 fn calls_of_queued<J: Begins<Endless<H>, H> + Send + 'static, H: Host>(
     rt: H,
 ) -> io::Result<Option<usize>> {
@@ -463,8 +471,8 @@ fn queued_sessions_are_dropped_unrun(rt: HostRuntime) -> Result<(), Fail> {
     Ok(())
 }
 
-// Whether a poll that waits for a handle which stops isn't woken meanwhile.
-fn is_left_alone<S: Begun<Endless<H>>, H: Runtime + RandomSource>(
+// Whether a poll that waits for a handle which stops isn't woken meanwhile. Over the pool of this owner.
+fn is_left_alone<S: LendsOn<Endless<H>>, H: Runtime + RandomSource>(
     rt: H,
     root: &S,
 ) -> io::Result<bool> {
@@ -482,6 +490,7 @@ fn is_left_alone<S: Begun<Endless<H>>, H: Runtime + RandomSource>(
     Ok(waits && is_quiet)
 }
 
+// The same, over a pool of its own, of one worker.
 fn waits_quietly<J: Begins<Endless<H>, H> + Send + 'static, H: Host>(rt: H) -> io::Result<bool> {
     let root = root_of::<J, H>(rt, "1")?;
     is_left_alone(rt, &root)
@@ -497,8 +506,8 @@ fn polls_that_wait_are_left_alone(rt: HostRuntime) -> Result<(), Fail> {
     Ok(())
 }
 
-// Whether a session whose job waits at a full pipe can be stopped.
-fn full_one_stops<S: Begun<Endless<H>>, H: Runtime + RandomSource>(
+// Whether a session whose job waits at a full pipe can be stopped. Over the pool of this owner.
+fn full_one_stops<S: LendsOn<Endless<H>>, H: Runtime + RandomSource>(
     rt: H,
     root: &S,
 ) -> io::Result<bool> {
@@ -515,6 +524,7 @@ fn full_one_stops<S: Begun<Endless<H>>, H: Runtime + RandomSource>(
     })
 }
 
+// The same of a stream, over a pool of its own, of one worker.
 fn full_stream_stops<H: Host>(rt: H) -> io::Result<bool> {
     let root = root_of::<ItemJob<Endless<H>, u8, H>, H>(rt, "1")?;
     full_one_stops(rt, &root)

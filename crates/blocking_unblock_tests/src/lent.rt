@@ -1,5 +1,4 @@
-//! Owners of a gated handle behind a trait whose methods promise nothing: a proof over any of these costs a part of what it costs over an `Unblock`
-//! itself.
+//! Owners of a gated handle behind a trait whose methods promise nothing.
 use crate::calls::{Answer, BY, Call, FIRST, TO, WAITS};
 use crate::drops::{Lasting, Point, Way, dropped_at};
 use crate::kinds::Kinds;
@@ -377,7 +376,7 @@ fn new_lent<J: Job, H: Runtime>(
     })
 }
 
-/// The first owner over a pool of so many workers, which lends nothing itself: it makes the others. Of a client one job may run, where that is to be.
+/// The first owner over a pool of so many workers, which lends nothing itself: it makes the others. With `is_limited`, one job of each client may run.
 pub(crate) fn root<H: Host>(
     rt: H,
     workers: &str,

@@ -1,5 +1,6 @@
 //! The tests of `Unblock`: handles that are lent to a pool, on real threads. There is nothing here but tests, since a crate that has
-//! tests is proved a second time with them.
+//! tests is proved a second time with them. Most scenes are written over traits that promise nothing, since these cost less to prove:
+//! docs/GATE.md.
 #![tactic(auto)]
 
 #[cfg(test)]

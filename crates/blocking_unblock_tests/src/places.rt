@@ -491,7 +491,7 @@ struct Scene<J: Job, H: Runtime> {
     gate: Arc<Gate>,
 }
 
-// A scene as it is played. It promises nothing: a proof over any of these costs a part of what it costs over an `Unblock` itself.
+// A scene as it is played. It promises nothing.
 trait Plays: Drop {
     // How what a step shows fits that isn't to be refused.
     fn does(&mut self, step: Step) -> io::Result<Came>;

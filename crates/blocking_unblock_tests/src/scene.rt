@@ -69,7 +69,7 @@ impl Sight {
 
 type Came<T> = Option<Poll<T>>;
 
-/// The owner of a planned reader. It promises nothing: a proof over any of these costs a part of what it costs over an `Unblock` itself.
+/// The owner of a planned reader. It promises nothing.
 pub(crate) trait Reads: Drop {
     /// What a poll into this buffer shows. (none of an owner that is closed)
     fn poll_bytes(&mut self, mock: &MockTask, buffer: &mut [u8]) -> Came<Result<usize, IoFault>>;

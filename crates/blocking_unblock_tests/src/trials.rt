@@ -1,5 +1,5 @@
-//! What is tried of owners of gated handles. One function names the type of these owners for all of it, since to show what that type is costs more
-//! than to go on over any.
+//! The trials of owners of gated handles. They are written over any owner, and one function names the type of the owners for all of them: a
+//! function that names it costs more to prove.
 use crate::drops::Lasting;
 use crate::lent::{Lender, root};
 use crate::{abandoned, clients, drops};
@@ -34,7 +34,7 @@ fn first_wrong<S: Lender, R: Clock>(root: &S, rt: &R, trial: Trial) -> io::Resul
     Ok(if is_right { None } else { Some(0) })
 }
 
-/// The same, over a pool of one worker, or for clients of four that runs one job of each client.
+/// The same, over a pool of one worker; the trials of clients over one of four workers, which runs one job of each client.
 pub(crate) fn first_wrong_of<H: Host>(rt: H, trial: Trial) -> io::Result<Option<usize>> {
     let root = match trial {
         Trial::Calls | Trial::Leaving | Trial::Dropping(_) => root(rt, "1", false)?,

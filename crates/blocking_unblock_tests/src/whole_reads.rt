@@ -97,7 +97,7 @@ struct Lent<J: Job, H: Runtime> {
     owner: Unblock<Planned, (), J, H>,
 }
 
-// It promises nothing: a proof over any of these costs a part of what it costs over an `Unblock` itself.
+// An owner that is read, step by step. It promises nothing.
 trait Shows: Drop {
     // Whether a step shows what it must.
     fn shows(&mut self, step: Step) -> io::Result<bool>;
@@ -137,7 +137,7 @@ fn of_four<J: Job, H: Runtime>(rt: H, executor: Executor<J, H>) -> io::Result<Le
     Ok(Lent { rt, owner })
 }
 
-// The same, of such an owner.
+// The place of the first step that an owner with a pipe of four doesn't show as it must, if there is one.
 fn first_wrong_of_four<H: Host>(rt: H) -> io::Result<Option<usize>> {
     match Executor::<ReadJob<Planned, H>, H>::new(rt, Some("1")) {
         Ok(executor) => first_wrong(of_four(rt, executor)?),

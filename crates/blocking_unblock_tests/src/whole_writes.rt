@@ -161,7 +161,7 @@ struct Lent<J: Job, H: Runtime> {
     page: Arc<Page>,
 }
 
-// It promises nothing: a proof over any of these costs a part of what it costs over an `Unblock` itself.
+// An owner that is written to, step by step. It promises nothing.
 trait Shows: Drop {
     // How what a step shows fits. (none where a closed owner would be asked for what it may not)
     fn shows(&mut self, step: Step) -> io::Result<Option<Came>>;
@@ -206,7 +206,7 @@ fn of_four<J: Job, H: Runtime>(
     Ok(Lent { rt, owner, page })
 }
 
-// The same, of a row.
+// The place of the first step of a row that shows something else than it must, if there is one.
 fn first_wrong<H: Host>(rt: H, row: &Row) -> io::Result<Option<usize>> {
     match Executor::<Writing<H>, H>::new(rt, Some("1")) {
         Ok(executor) => first_wrong_of(of_four(rt, executor, row.plan)?, row.steps),

@@ -268,15 +268,15 @@ const ROWS: &[Row] = &[
     },
 ];
 
-/// The owner of a planned writer. It promises nothing: a proof over any of these costs a part of what it costs over an `Unblock` itself.
+// The owner of a planned writer. It promises nothing.
 trait Writes: std::ops::Drop {
-    /// What a poll of a step shows that doesn't wait. (none where it waits)
+    // What a poll of a step shows that doesn't wait. (none where it waits)
     fn poll_step(&mut self, mock: &MockTask, step: Step, buffer: &mut [u8]) -> Option<Came>;
 
-    /// What a poll of a write shows; none of an owner that is closed.
+    // What a poll of a write shows; none of an owner that is closed.
     fn poll_bytes(&mut self, mock: &MockTask, bytes: &[u8]) -> Option<Poll<Result<usize, IoFault>>>;
 
-    /// Whether its text is this.
+    // Whether its text is this.
     fn says(&self, alloc: Global, wanted: &str) -> io::Result<bool>;
 }
 
@@ -521,7 +521,7 @@ fn owner<J: Job, H: Runtime>(
     Unblock::with_capacity(capacity.max(1), executor, writer)
 }
 
-/// The place of the first step that shows something else than it must, if there is one.
+// The place of the first step that shows something else than it must, if there is one.
 fn play<O: Writes, H: Runtime + RandomSource>(
     rt: H,
     owner: O,

@@ -122,7 +122,7 @@ impl Clients {
     }
 
     /// Sets what is known of a client.
-    // (not where no client limit is set: what a call costs then is in docs/DECISIONS.md)
+    // (a function of its own, so that a call that names no client pays for no look-up: docs/DECISIONS.md)
     #[inline(never)]
     pub(crate) fn set(&mut self, client: u32, state: Client)
         requires { (is_some (get self.old.known client) || nat_lt 0 self.old.spare) ≡ true }
@@ -199,7 +199,7 @@ impl Clients {
         self.set(client, Client { running, ..state });
     }
 
-    /// Whether the client goes with its next job: it is named, and has one job.
+    /// Whether the client goes once one more of its jobs is over: it is named, and has one job.
     #[inline(always)]
     pub(crate) fn is_last_job(&self, client: u32) -> bool
         ensures { result ≡ (not (client == 0) && ((client_at self.now.known client).jobs == 1)) }

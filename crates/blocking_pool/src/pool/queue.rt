@@ -512,8 +512,8 @@ impl Queue {
         self.ready += admit(&mut self.heads, &self.spots, self.limit, client, later);
     }
 
-    /// Sets the client limit, or sets none. Goes through the clients, and through the queue where there was no limit or will
-    /// be none.
+    /// Sets the client limit, or sets none. Goes through the clients where a limit is to stand, and through the queue where one
+    /// begins or goes.
     pub(crate) fn set_limit(&mut self, limit: Option<usize>)
         requires { IfSome limit (λ most. 0 < most) }
         ensures same { Holds self.old (record self.new { limit = self.old.limit }) self.old.places self.old.owners }

@@ -125,8 +125,8 @@ impl<J: Drop> Table<J> {
         self.queue.limit()
     }
 
-    /// Sets the client limit, or sets none. Goes through the clients, and through the queue where there was no limit or will
-    /// be none.
+    /// Sets the client limit, or sets none. Goes through the clients where a limit is to stand, and through the queue where one
+    /// begins or goes.
     pub(crate) fn set_client_limit(&mut self, limit: Option<usize>)
         requires { IfSome limit (λ most. 0 < most) }
         ensures same { HasJobs self.old (record self.new { client_limit = self.old.client_limit }) self.old.jobs }

@@ -17,7 +17,7 @@ put_at_end : {A B : Type 0} (r : Result A B) (old between new : List Moment) (mo
 put_at_end r old between new moment same ok is =
     is ∙ ap (λ b. if b then between ++ moment ∷ [] else between) ok ∙ ap (λ (row : List Moment). row ++ moment ∷ []) same
 
--- the room for the event's bytes was had
+-- the room for the event's bytes was made
 pub twin_in-twin-requires-clause-enough : goal.twin_in-twin-requires-clause-enough
 twin_in-twin-requires-clause-enough c =
     subst (λ n. length (bytes_of c.in_ok-event.event.act) ≤ n) (sym (c.in_ok-room.ensures.exact ∙ c.bytes_to_come.ensures))
