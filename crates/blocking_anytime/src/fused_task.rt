@@ -13,7 +13,7 @@ use std::sync::Wait;
 ///
 /// It is what a set of calls is made of, such as the kit's `FuturesUnordered`, which asks of each that it may be polled:
 ///
-/// ```
+/// ```rust
 /// let mut calls = FuturesUnordered::new(rt.alloc())?;
 /// calls.push(FusedTask::new(unblock(&executor, call)?))?;
 /// let answer = block_on(&rt, calls.next())?;

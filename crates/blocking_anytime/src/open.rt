@@ -31,7 +31,7 @@ pub type OpenItems<D, I, H, J = ItemJob<D, I, H>> = Open<D, I, J, H>;
 /// left of a session, or is taken back by [`Open::into_inner`]. Whoever wants to close it takes the owner by [`Open::into_owner`]; whoever
 /// drops it flushes first. An operation on the handle goes by the owner, too.
 ///
-/// ```
+/// ```rust
 /// let mut file: OpenReader<File, H> = Open::new(executor, file);
 /// let first = block_on(&rt, file.read(&mut piece))??;
 /// let second = block_on(&rt, file.read(&mut piece))??;
