@@ -16,6 +16,16 @@ use std::sync::{Arc, Mutex, MutexGuard, Wait};
 /// A waker that a call answers was taken out of its seat, and is to be called. One that is let go calls itself.
 ///
 /// Dropping it closes nothing, and the owner goes on waiting: it is closed first.
+///
+/// In a job's `step`, where `me` is its number:
+///
+/// ```rust
+/// match self.end.send(me, number) {
+///     Sending::Sent(_) => JobStep::Again,
+///     Sending::Parked(_) => JobStep::Waiting,
+///     Sending::Shut(_) => JobStep::Done,
+/// }
+/// ```
 #[derive(Drop)]
 pub struct SendEnd<X: Drop, R: PlaceRule<X>, S: Store<X>, H: Wait + Copy> {
     pipe: Arc<Mutex<JobToOwner<X, R, S>>>,
@@ -101,6 +111,12 @@ impl<X: Drop, R: PlaceRule<X>, S: Store<X>, H: Wait + Copy> SendEnd<X, R, S, H> 
     }
 
     /// Closes this end, where the items may end. From then on nothing is sent. Answers the waker of an owner who waits.
+    ///
+    /// ```rust
+    /// // (a waker that is let go wakes)
+    /// drop(self.end.close());
+    /// return JobStep::Done;
+    /// ```
     pub fn close(&mut self) -> Option<OwnerWaker>
         requires { R.ended self.old.sent }
         ensures sent { self.new.sent ≡ self.old.sent }
