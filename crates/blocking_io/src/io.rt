@@ -11,7 +11,7 @@ use std::io::SeekFrom;
 
 /// Why a call on a lent handle of the system failed.
 ///
-/// As an `io::Error` it goes on by `?`. This is why two stand behind what `block_on` gives, which may fail itself:
+/// A `?` passes it on as an `io::Error`. There are two here, since `block_on` itself may fail:
 ///
 /// ```rust
 /// block_on(&rt, file.flush())??;

@@ -79,8 +79,8 @@ impl<T: Drop, I: Drop, J: Job, H: Runtime> Unblock<T, I, J, H> {
 
     /// The owner of a handle, whose sessions have pipes for 8,388,608 bytes or 8192 items.
     ///
-    /// It takes no memory itself. A session that reads or writes takes that of its pipe, and three pieces of 65,536 bytes more. No more of it is
-    /// touched than is used.
+    /// It takes no memory itself. A session that reads or writes takes that of its pipe, and three pieces of 65,536 bytes more. The next session
+    /// of its kind uses it again.
     ///
     /// ```rust
     /// let executor: Executor<ReadJob<File, H>, H> = Executor::new(rt, Some("1"))?;
@@ -200,7 +200,7 @@ impl<T: Drop, I: Drop, J: Job, H: Runtime> Unblock<T, I, J, H> {
     ///
     /// One that is dropped gives the result up: the operation is made all the same, once its session began.
     ///
-    /// Here `SyncAll` is the operation of the example at [`CallOn`], which fails by itself: hence the third `?`.
+    /// Here `SyncAll` is the operation of the example at [`CallOn`], whose result may be an error: hence the third `?`.
     ///
     /// ```rust
     /// let executor: Executor<OpJob<SyncAll, File, H>, H> = Executor::new(rt, Some("1"))?;
