@@ -18,6 +18,8 @@ use std::io::{Read, Seek, SeekFrom, Write};
 
 /// A reader that can't be closed, lent to an executor whose jobs are of type `J`.
 ///
+/// Here the executor's jobs `Access<H>` read a file and move it:
+///
 /// ```rust
 /// let mut file: OpenReader<File, H, Access<H>> = Open::new(executor, file);
 /// let mut record = [0u8; 4];
