@@ -10,26 +10,70 @@ use std::fs::File;
 use std::io::{self, Read, Seek, SeekFrom, Write};
 
 /// A reader that is lent to an executor whose jobs are of type `J`.
+///
+/// ```rust
+/// let executor: Executor<ReadJob<File, H>, H> = Executor::new(rt, Some("1"))?;
+/// let mut file: Reader<File, H> = Unblock::new(executor, file);
+/// let count = block_on(&rt, file.read(&mut piece))??;
+/// ```
 pub type Reader<T, H, J = ReadJob<T, H>> = Unblock<T, (), J, H>;
 
 /// A writer that is lent to an executor whose jobs are of type `J`.
+///
+/// ```rust
+/// let executor: Executor<WriteJob<File, H>, H> = Executor::new(rt, Some("1"))?;
+/// let mut file: Writer<File, H> = Unblock::new(executor, file);
+/// block_on(&rt, file.write_all(line))??;
+/// block_on(&rt, file.flush())??;
+/// ```
 pub type Writer<T, H, J = WriteJob<T, H>> = Unblock<T, (), J, H>;
 
 /// An iterator of `I` that is lent to an executor whose jobs are of type `J`.
+///
+/// ```rust
+/// let executor: Executor<ItemJob<Range<u32>, u32, H>, H> = Executor::new(rt, Some("1"))?;
+/// let mut numbers: Items<Range<u32>, u32, H> = Unblock::with_capacity(4, executor, 5..8);
+/// let first = block_on(&rt, numbers.next())?.transpose()?;
+/// ```
 pub type Items<D, I, H, J = ItemJob<D, I, H>> = Unblock<D, I, J, H>;
 
 /// The jobs of an executor whose files are read, written and sought.
+///
+/// ```rust
+/// let executor: Executor<FileJobs<H>, H> = Executor::new(rt, Some("2"))?;
+/// let mut file: Reader<File, H, FileJobs<H>> = Unblock::new(executor, file);
+/// let length = block_on(&rt, file.seek(SeekFrom::End(0)))??;
+/// ```
 pub type FileJobs<H> = Jobs<H, Unused, File, File, Unused, File>;
 
 /// The same, and calls of type `F`.
+///
+/// ```rust
+/// let executor: Executor<CallFileJobs<H, Double>, H> = Executor::new(rt, None)?;
+/// let doubled = block_on(&rt, unblock(&executor, Double(21))?)?;
+/// let file: Reader<File, H, CallFileJobs<H, Double>> = Unblock::new(executor, file);
+/// ```
 pub type CallFileJobs<H, F> = Jobs<H, F, File, File, Unused, File>;
 
 /// The jobs of an executor that copies from readers to writers.
+///
+/// ```rust
+/// let executor: Executor<CopyJobs<H, File, File>, H> = Executor::new(rt, Some("2"))?;
+/// let reader: Reader<File, H, CopyJobs<H, File, File>> = Unblock::new(executor.try_clone()?, from);
+/// let writer: Writer<File, H, CopyJobs<H, File, File>> = Unblock::new(executor, to);
+/// let copied = block_on(&rt, Copier::new(rt.alloc(), reader, writer, 65_536)?)??;
+/// ```
 pub type CopyJobs<H, R, W> = Jobs<H, Unused, R, W>;
 
 /// What stands for a kind of job that an executor isn't to run: a call that does nothing, or a handle with nothing behind it.
 ///
 /// Read, it is at its end; what is written to it is gone; it has no items; and a seek ends at 0.
+///
+/// Of an executor whose files are read and sought, and not written:
+///
+/// ```rust
+/// type Access<H> = Jobs<H, Unused, File, Unused, Unused, File>;
+/// ```
 #[derive(Drop)]
 pub struct Unused;
 
@@ -83,6 +127,14 @@ impl Iterator for Unused {
 /// handles `T`. What isn't named has no jobs, and [`Unused`] stands for it before what is named.
 ///
 /// Calls of several types are one enum of the program's own that is a [`Call`], and so are operations.
+///
+/// ```rust
+/// type Work<H> = Jobs<H, Double, File, File>;
+///
+/// let executor: Executor<Work<H>, H> = Executor::new(rt, None)?;
+/// let reader: Reader<File, H, Work<H>> = Unblock::new(executor.try_clone()?, file);
+/// let doubled = block_on(&rt, unblock(&executor, Double(21))?)?;
+/// ```
 #[derive(Drop)]
 pub enum Jobs<
     H: Runtime,

@@ -19,6 +19,17 @@
 //!
 //! The jobs of an executor are one type. Where it runs calls of one type alone that is [`CallJob`]; [`Jobs`] has a variant for each kind.
 //!
+//! A call, and a file that is read; `Double` is the example at [`Call`]:
+//!
+//! ```rust
+//! let executor: Executor<CallJob<Double, H>, H> = Executor::new(rt, Some("8"))?;
+//! let doubled = block_on(&rt, unblock(&executor, Double(21))?)?;
+//!
+//! let executor: Executor<ReadJob<File, H>, H> = Executor::new(rt, Some("1"))?;
+//! let mut file: Reader<File, H> = Unblock::new(executor, file);
+//! let count = block_on(&rt, file.read(&mut piece))??;
+//! ```
+//!
 //! What the ends of a pipe answer stands in [`pipe`], and what a pool does in [`pool`].
 #![tactic(auto)]
 

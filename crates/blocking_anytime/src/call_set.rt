@@ -16,7 +16,7 @@ use std::sync::Wait;
 /// A call may be pushed at any time, also while others are under way, and the set may be polled at any time. It ends where no call is left, and
 /// goes on where one is pushed behind that.
 ///
-/// ```
+/// ```rust
 /// let mut calls = CallSet::new(rt.alloc())?;
 /// calls.push(unblock(&executor, call)?)?;
 /// let answer = block_on(&rt, calls.next())?;

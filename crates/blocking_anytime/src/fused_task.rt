@@ -13,7 +13,7 @@ use std::sync::Wait;
 ///
 /// It is what a set of calls is made of, such as the kit's `FuturesUnordered`, which asks of each that it may be polled:
 ///
-/// ```
+/// ```rust
 /// let mut calls = FuturesUnordered::new(rt.alloc())?;
 /// calls.push(FusedTask::new(unblock(&executor, call)?))?;
 /// let answer = block_on(&rt, calls.next())?;
@@ -49,6 +49,13 @@ impl<F: Call<Out: Drop>, H: Wait + Copy> FusedTask<F, H> {
     }
 
     /// The task, where its answer wasn't taken.
+    ///
+    /// ```rust
+    /// let mut fused = FusedTask::new(unblock(&executor, Double(4))?);
+    /// let first = block_on(&rt, &mut fused)?;
+    /// // (none is left, since the answer was taken)
+    /// let left = fused.into_task();
+    /// ```
     pub fn into_task(self) -> Option<Task<F, H>>
         ensures task { result ≡ self.task }
         ensures untaken { ForSome result (λ task. task.is_taken ≡ false) }

@@ -17,12 +17,37 @@ use std::fmt::{Debug, Formatter};
 use std::io::{Read, Seek, SeekFrom, Write};
 
 /// A reader that can't be closed, lent to an executor whose jobs are of type `J`.
+///
+/// Here the executor's jobs `Access<H>` read a file and move it:
+///
+/// ```rust
+/// let mut file: OpenReader<File, H, Access<H>> = Open::new(executor, file);
+/// let mut record = [0u8; 4];
+/// block_on(&rt, file.seek(SeekFrom::Start(2)))??;
+/// block_on(&rt, file.read_exact(&mut record))??;
+/// ```
 pub type OpenReader<T, H, J = ReadJob<T, H>> = Open<T, (), J, H>;
 
 /// A writer that can't be closed, lent to an executor whose jobs are of type `J`.
+///
+/// ```rust
+/// let mut log: OpenWriter<File, H> = Open::with_capacity(65_536, executor, file);
+/// block_on(&rt, log.write_all(b"a spruce\n"))??;
+/// block_on(&rt, log.write_all(b"a fir\n"))??;
+/// ```
 pub type OpenWriter<T, H, J = WriteJob<T, H>> = Open<T, (), J, H>;
 
 /// An iterator of `I` that can't be closed, lent to an executor whose jobs are of type `J`.
+///
+/// ```rust
+/// let mut numbers: OpenItems<Range<u32>, u32, H> = Open::new(executor, 5..8);
+/// for _ in rt.forever() {
+///     let Some(number) = block_on(&rt, numbers.next())? else {
+///         break;
+///     };
+///     sum = sum.saturating_add(number?);
+/// }
+/// ```
 pub type OpenItems<D, I, H, J = ItemJob<D, I, H>> = Open<D, I, J, H>;
 
 /// The owner of a blocking handle that is open for good: an [`Unblock`] that nobody closes. So no call asks whether it is.
@@ -31,7 +56,7 @@ pub type OpenItems<D, I, H, J = ItemJob<D, I, H>> = Open<D, I, J, H>;
 /// left of a session, or is taken back by [`Open::into_inner`]. Whoever wants to close it takes the owner by [`Open::into_owner`]; whoever
 /// drops it flushes first. An operation on the handle goes by the owner, too.
 ///
-/// ```
+/// ```rust
 /// let mut file: OpenReader<File, H> = Open::new(executor, file);
 /// let first = block_on(&rt, file.read(&mut piece))??;
 /// let second = block_on(&rt, file.read(&mut piece))??;
@@ -70,6 +95,13 @@ impl<T: Drop, I: Drop, J: Job, H: Runtime> Open<T, I, J, H> {
     }
 
     /// An owner that is open, as it is. One that is closed comes back.
+    ///
+    /// ```rust
+    /// let Ok(reader) = Open::from_owner(reader) else {
+    ///     // (it is closed)
+    ///     return Ok(None);
+    /// };
+    /// ```
     pub fn from_owner(owner: Unblock<T, I, J, H>) -> Result<Self, Unblock<T, I, J, H>>
         ensures open { IfOk result (λ made. made.owner ≡ owner) }
         ensures closed { IfErr result (λ back. (back ≡ owner) × IsClosed back.place) }
@@ -81,6 +113,11 @@ impl<T: Drop, I: Drop, J: Job, H: Runtime> Open<T, I, J, H> {
     }
 
     /// The owner, which is open, and may be closed then.
+    ///
+    /// ```rust
+    /// let mut owner = log.into_owner();
+    /// block_on(&rt, owner.close())??;
+    /// ```
     pub fn into_owner(self) -> Unblock<T, I, J, H>
         ensures owner { result ≡ self.owner }
         ensures open { IsClosed result.place → ⊥ }
@@ -151,6 +188,13 @@ impl<T: Drop, I: Drop, J: Job, H: Runtime> Open<T, I, J, H> {
     }
 
     /// The handle itself, as [`Open::poll_idle`] waits for it.
+    ///
+    /// ```rust
+    /// match self.reader.poll_get_mut(cx) {
+    ///     Poll::Pending => Poll::Pending,
+    ///     Poll::Ready(bytes) => Poll::Ready(bytes.position()),
+    /// }
+    /// ```
     pub fn poll_get_mut(&mut self, cx: &mut Context<'_>) -> Poll<&mut T>
         ensures follows { (place : _) × Follows GetMutCall self.old.owner.place (reply_of_get result) place
             × IfReady result (λ handle. place ≡ AtOwner handle.now) × KeepsAtOnce GetMutCall self.old.owner.place place }

@@ -4,6 +4,15 @@ use std::error::Error;
 use std::{fmt, io};
 
 /// Why a call on a lent handle failed.
+///
+/// ```rust
+/// match block_on(&rt, writer.write_all(line))? {
+///     Ok(()) => "taken, and written once a flush says so",
+///     Err(Fault::Io(error)) => return Err(error),
+///     Err(Fault::WriteZero) => "the file took none of the bytes",
+///     Err(Fault::Refused(_)) => "no session could begin, and the file is with its owner",
+/// }
+/// ```
 #[derive(Clone, Copy, Debug, PartialEq, Eq)]
 pub enum Fault<E> {
     /// The handle failed, with this error of its own.

@@ -5,6 +5,18 @@ use std::marker::Model;
 use std::mem;
 
 /// A call that a job makes once.
+///
+/// For a `struct Double(u32)` that is `Drop`:
+///
+/// ```rust
+/// impl Call for Double {
+///     type Out = u64;
+///     ghost may_give = { λ _. Unit {0} };
+///     fn call(self) -> u64 {
+///         u64::from(self.0) * 2
+///     }
+/// }
+/// ```
 pub trait Call {
     /// What the call gives.
     type Out;
@@ -18,6 +30,18 @@ pub trait Call {
 }
 
 /// A call on a handle, that a job makes once.
+///
+/// For a `struct SyncAll` that is `Drop`:
+///
+/// ```rust
+/// impl CallOn<File> for SyncAll {
+///     type Out = io::Result<()>;
+///     ghost may_give = { λ _. Unit {0} };
+///     fn call_on(self, file: &mut File) -> io::Result<()> {
+///         file.sync_all()
+///     }
+/// }
+/// ```
 pub trait CallOn<T> {
     /// What the call gives.
     type Out;

@@ -20,6 +20,19 @@ use std::sync::{Arc, Mutex, MutexGuard, Wait};
 /// it tries again.
 ///
 /// Dropping it closes nothing, and a job that waits for room stays parked: it is closed first.
+///
+/// In a future's `poll`, whose `wake` spends the note, if there is one, by `Executor::wake`:
+///
+/// ```rust
+/// match self.end.drain_or_seat(cx, &mut self.bytes) {
+///     Drained::Got(count, note) => {
+///         self.wake(note);
+///         Poll::Ready(count)
+///     }
+///     Drained::Ended => Poll::Ready(0),
+///     Drained::Waits(_) => Poll::Pending,
+/// }
+/// ```
 #[derive(Drop)]
 pub struct DrainEnd<X: Drop, R: PlaceRule<X>, S: Store<X>, H: Wait + Copy> {
     pipe: Arc<Mutex<JobToOwner<X, R, S>>>,

@@ -17,6 +17,19 @@ use std::sync::{Arc, Mutex, MutexGuard, Wait};
 /// of, and else tries again.
 ///
 /// Dropping it closes nothing, and a job that waits for items stays parked: it is closed first.
+///
+/// In a future's `poll`, whose `wake` spends the note, if there is one, by `Executor::wake`:
+///
+/// ```rust
+/// match self.end.fill_or_seat(cx, b"a spruce") {
+///     Filled::Took(count, note) => {
+///         self.wake(note);
+///         Poll::Ready(count)
+///     }
+///     Filled::Shut => Poll::Ready(0),
+///     Filled::Waits(_) => Poll::Pending,
+/// }
+/// ```
 #[derive(Drop)]
 pub struct FillEnd<X: Drop, R: PlaceRule<X>, S: Store<X>, H: Wait + Copy> {
     pipe: Arc<Mutex<OwnerToJob<X, R, S>>>,
@@ -79,6 +92,12 @@ impl<X: Drop, R: PlaceRule<X>, S: Store<X>, H: Wait + Copy> FillEnd<X, R, S, H> 
 
     /// Closes this end, where the items may end. From then on nothing is sent. Answers the note of a job that waits, which has to
     /// be spent. What is inside may still be received.
+    ///
+    /// ```rust
+    /// if let Some(note) = end.close() {
+    ///     let _ = executor.wake(note);
+    /// }
+    /// ```
     pub fn close(&mut self) -> Option<WakeNote>
         requires { R.ended self.old.sent }
         ensures sent { self.new.sent ≡ self.old.sent }

@@ -15,6 +15,14 @@ use std::sync::{Arc, Mutex, Wait};
 
 /// A new pipe for at most `capacity` items that a job sends to its owner, over a store of the type `S`: the job's end and the owner's. All its
 /// memory is taken here, and where there isn't so much the answer is an [`AllocError`].
+///
+/// Here `Counter` is a job with the one end in it, and `Next` a future over the other (see [`SendEnd`] and [`RecvEnd`]):
+///
+/// ```rust
+/// let (theirs, mut end) = link(rt, 2)?;
+/// executor.add(Counter { end: theirs })?;
+/// let _ = block_on(&rt, Next { executor: &executor, end: &mut end })?;
+/// ```
 pub fn link<X: Drop, R: PlaceRule<X>, S: Store<X>, H: Wait + AllocGlobal + Copy>(
     rt: H,
     capacity: usize,
@@ -47,6 +55,11 @@ pub fn link_over<X: Drop, R: PlaceRule<X>, S: Store<X>, H: Wait + AllocGlobal + 
 }
 
 /// The memory of a pipe whose ends pass pieces: that of its store, in which nothing stands, and a piece at each end.
+///
+/// ```rust
+/// let memory = LendingMemory::with_piece(rt.alloc(), 131_072, 65_536)?;
+/// let memory: PieceMemory<u8, LendingStore> = PieceMemory::over(rt.alloc(), memory)?;
+/// ```
 #[derive(Drop)]
 pub struct PieceMemory<X: Drop, S: Store<X>> {
     store: S::Memory,
@@ -121,6 +134,13 @@ impl<X: Drop, S: Store<X>> PieceMemory<X, S> {
 
 /// As [`link`], over memory that is there already, for as many items as that holds. What the owner drains is lent to it. The last part is the
 /// sender's piece, and what stands there is not to be relied on.
+///
+/// ```rust
+/// let (send, drain, piece) = link_drain::<u8, AnyPlace, LendingStore, H>(rt, memory)?;
+///
+/// // (once both ends are of no use any more)
+/// let memory = unlink_drain(send, drain, piece);
+/// ```
 pub fn link_drain<X: Drop, R: PlaceRule<X>, S: Store<X>, H: Wait + AllocGlobal + Copy>(
     rt: H,
     memory: PieceMemory<X, S>,
@@ -162,6 +182,14 @@ pub fn unlink_drain<X: Drop, R: PlaceRule<X>, S: Store<X>, H: Wait + Copy>(
 
 /// A new pipe for at most `capacity` items that an owner sends to its job, over a store of the type `S`: the owner's end and the job's. All its
 /// memory is taken here, as [`PieceMemory::over`] says, and where there isn't so much the answer is an [`AllocError`].
+///
+/// Here `Taker` is a job with the one end in it, and `Fill` a future over the other (see [`PeekEnd`] and [`FillEnd`]):
+///
+/// ```rust
+/// let (mut end, theirs) = link_in(rt, 2)?;
+/// executor.add(Taker { end: theirs })?;
+/// let count = block_on(&rt, Fill { executor: &executor, end: &mut end })?;
+/// ```
 pub fn link_in<X: Drop, R: PlaceRule<X>, S: Store<X>, H: Wait + AllocGlobal + Copy>(
     rt: H,
     capacity: usize,
@@ -200,6 +228,11 @@ pub fn link_in_over<X: Drop, R: PlaceRule<X>, S: Store<X>, H: Wait + AllocGlobal
 
 /// The memory of a pipe both of whose ends are given back, for another. What was inside is dropped. `None` where somebody else has an end of the
 /// pipe that `fill` sends into, as where `peek` is of another.
+///
+/// ```rust
+/// let (fill, peek) = link_in::<u8, AnyPlace, LendingStore, H>(rt, 131_072)?;
+/// let other = unlink_in(fill, peek);
+/// ```
 pub fn unlink_in<X: Drop, R: PlaceRule<X>, S: Store<X>, H: Wait + Copy>(
     fill: FillEnd<X, R, S, H>,
     peek: PeekEnd<X, R, S, H>,

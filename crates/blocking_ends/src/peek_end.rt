@@ -19,6 +19,20 @@ use std::sync::{Arc, Mutex, MutexGuard, Wait};
 /// A waker that a call answers was taken out of its seat, and is to be called. One that is let go calls itself.
 ///
 /// Dropping it closes nothing, and the owner goes on waiting: it is closed first.
+///
+/// In a job's `step`, where `me` is its number:
+///
+/// ```rust
+/// match self.end.peek_or_seat(me, &mut bytes) {
+///     Peeked::Some(count) => {
+///         // (here `bytes[..count]` is used; a waker that is let go wakes)
+///         drop(self.end.consume(count));
+///         JobStep::Again
+///     }
+///     Peeked::Parked => JobStep::Waiting,
+///     Peeked::Drained => JobStep::Done,
+/// }
+/// ```
 #[derive(Drop)]
 pub struct PeekEnd<X: Drop, R: PlaceRule<X>, S: Store<X>, H: Wait + Copy> {
     pipe: Arc<Mutex<OwnerToJob<X, R, S>>>,

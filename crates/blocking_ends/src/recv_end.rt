@@ -17,6 +17,19 @@ use std::sync::{Arc, Mutex, MutexGuard, Wait};
 /// knows of, and else tries again.
 ///
 /// Dropping it closes nothing, and a job that waits for room stays parked: it is closed first.
+///
+/// In a future's `poll`, whose `wake` spends the note, if there is one, by `Executor::wake`:
+///
+/// ```rust
+/// match self.end.receive_or_seat(cx) {
+///     Received::Got(number, note) => {
+///         self.wake(note);
+///         Poll::Ready(Some(number))
+///     }
+///     Received::Ended => Poll::Ready(None),
+///     Received::Waits(_) => Poll::Pending,
+/// }
+/// ```
 #[derive(Drop)]
 pub struct RecvEnd<X: Drop, R: PlaceRule<X>, S: Store<X>, H: Wait + Copy> {
     pipe: Arc<Mutex<JobToOwner<X, R, S>>>,

@@ -33,6 +33,13 @@ impl<X, R: PlaceRule<X>> Protocol<X> for ByPlace<R> {
 
 /// A new pipe for at most `capacity` items that a job sends to its owner, whose ends pass an item under no lock: the job's end and the owner's. All
 /// its memory is taken here, and where there isn't so much the answer is an [`AllocError`].
+///
+/// Here `Numbers` is a job with the one end in it (see [`ItemSendEnd`]):
+///
+/// ```rust
+/// let (theirs, mut end): (_, ItemRecvEnd<u32, AnyPlace, H>) = link_items(rt, 2)?;
+/// executor.add(Numbers { next: 0, end: theirs })?;
+/// ```
 pub fn link_items<X: Drop, R: PlaceRule<X>, H: Wait + AllocGlobal + Copy>(
     rt: H,
     capacity: usize,

@@ -5,6 +5,16 @@ ghost use Rattle.std.specs.Prelude.{ℕ};
 ///
 /// Whoever sends owes it, and whoever receives may rely on it. It holds of the item at each place, and at the place at
 /// which the sender closed its end.
+///
+/// That the item at each place is the place's number, and that there are ten, for a `struct Counting`:
+///
+/// ```rust
+/// impl PlaceRule<u64> for Counting {
+///     ghost use Rattle.std.specs.Prelude.{◌≡◌};
+///     ghost holds = { λ place item. item ≡ place };
+///     ghost ended = { λ place. place ≡ 10 };
+/// }
+/// ```
 pub trait PlaceRule<X> {
     /// What holds of the item at a place.
     ghost holds: { ℕ → X → Type 0 };
@@ -14,6 +24,10 @@ pub trait PlaceRule<X> {
 }
 
 /// The rule that allows every item at every place, and each end.
+///
+/// ```rust
+/// let (fill, peek) = link_in::<u8, AnyPlace, LendingStore, H>(rt, 131_072)?;
+/// ```
 pub struct AnyPlace;
 
 impl<X> PlaceRule<X> for AnyPlace {

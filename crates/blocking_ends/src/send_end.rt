@@ -16,6 +16,16 @@ use std::sync::{Arc, Mutex, MutexGuard, Wait};
 /// A waker that a call answers was taken out of its seat, and is to be called. One that is let go calls itself.
 ///
 /// Dropping it closes nothing, and the owner goes on waiting: it is closed first.
+///
+/// In a job's `step`, where `me` is the job's number, and `number` an item that holds at the next place:
+///
+/// ```rust
+/// match self.end.send(me, number) {
+///     Sending::Sent(_) => JobStep::Again,
+///     Sending::Parked(_) => JobStep::Waiting,
+///     Sending::Shut(_) => JobStep::Done,
+/// }
+/// ```
 #[derive(Drop)]
 pub struct SendEnd<X: Drop, R: PlaceRule<X>, S: Store<X>, H: Wait + Copy> {
     pipe: Arc<Mutex<JobToOwner<X, R, S>>>,
@@ -68,6 +78,18 @@ impl<X: Drop, R: PlaceRule<X>, S: Store<X>, H: Wait + Copy> SendEnd<X, R, S, H> 
 
     /// Looks for room for items, of which `put` may use as much as is told. The job is seated where there is none, and is told `Shut` where
     /// the owner's end is closed. Once this end is closed what is told is of no use: `put` and `send` send nothing more.
+    ///
+    /// ```rust
+    /// match self.end.room_or_seat(me) {
+    ///     Room::Free(room) => {
+    ///         let count = room.min(bytes.len());
+    ///         drop(self.end.put(&bytes[..count]));
+    ///         JobStep::Again
+    ///     }
+    ///     Room::Parked => JobStep::Waiting,
+    ///     Room::Shut => JobStep::Done,
+    /// }
+    /// ```
     pub fn room_or_seat(&mut self, me: JobNo) -> Room
         ensures sent { self.new.sent ≡ self.old.sent }
         ensures free { self.new.free ≡ free_after result self.old.free }
@@ -101,6 +123,12 @@ impl<X: Drop, R: PlaceRule<X>, S: Store<X>, H: Wait + Copy> SendEnd<X, R, S, H> 
     }
 
     /// Closes this end, where the items may end. From then on nothing is sent. Answers the waker of an owner who waits.
+    ///
+    /// ```rust
+    /// // (a waker that is let go wakes)
+    /// drop(self.end.close());
+    /// return JobStep::Done;
+    /// ```
     pub fn close(&mut self) -> Option<OwnerWaker>
         requires { R.ended self.old.sent }
         ensures sent { self.new.sent ≡ self.old.sent }
@@ -143,6 +171,7 @@ impl<X: Copy, R: PlaceRule<X>, S: CopyStore<X>, H: Wait + Copy> SendEnd<X, R, S,
 
     /// Puts items into the room that was told last and wasn't used since. They are lost where the owner's end is closed, or this one, or where
     /// more than 18446744073709551615 items would be sent in all.
+    /// (See the example at [`room_or_seat`](SendEnd::room_or_seat).)
     pub fn put(&mut self, items: &[X]) -> Put<OwnerWaker>
         requires fits { length items.now ≤ self.old.free }
         requires held { HoldFrom R.holds self.old.sent items.now }

@@ -32,6 +32,15 @@ struct Shared<J: Job> {
 ///
 /// A share adds its jobs for one client: for client 0, unless [`for_client`](Executor::for_client) names another. Clients matter where
 /// [`set_client_limit`] set a limit of running jobs for each.
+///
+/// The spawner keeps a share for good. So what the shares have in common is never given back, also where nobody else has one.
+///
+/// Here `Double` is the call of the example at [`Call`](blocking_core::task::Call), and `rt` an `H: Host`:
+///
+/// ```rust
+/// let executor: Executor<CallJob<Double, H>, H> = Executor::new(rt, Some("8"))?;
+/// let doubled = block_on(&rt, unblock(&executor, Double(21))?)?;
+/// ```
 #[derive(Drop)]
 pub struct Executor<J: Job, H: Runtime> {
     shared: Arc<Shared<J>>,
@@ -51,6 +60,14 @@ impl<J: Job + Send + 'static, H: Runtime + Threads + Send + Sync + 'static> Exec
     /// its own: the one that `main` was given, which is `Copy`.
     ///
     /// `Memory` where there was none for the shared state, and `NoWorker` where the spawner's thread couldn't be had.
+    ///
+    /// A program that goes by the variable reads it, with the `system` that `main` was given:
+    ///
+    /// ```rust
+    /// let setting = env::var(&system, MAX_THREADS_ENV).ok();
+    /// let setting = setting.as_ref().map(|text| text.as_str());
+    /// let executor: Executor<CallJob<Double, H>, H> = Executor::new(rt, setting)?;
+    /// ```
     pub fn new(rt: H, setting: Option<&str>) -> Result<Executor<J, H>, Refusal>
         ensures { IfOk result (λ executor. executor.client ≡ 0) }
     {
@@ -119,6 +136,11 @@ impl<J: Job + Send + 'static, H: Runtime + Threads + Send + Sync + 'static> Exec
 
 impl<J: Job, H: Runtime> Executor<J, H> {
     /// One more share of the same pool, for the same client.
+    ///
+    /// ```rust
+    /// let reader: Reader<File, H, CopyJobs<H, File, File>> = Unblock::new(executor.try_clone()?, from);
+    /// let writer: Writer<File, H, CopyJobs<H, File, File>> = Unblock::new(executor, to);
+    /// ```
     pub fn try_clone(&self) -> Result<Executor<J, H>, AllocError>
         ensures { IfOk result (λ share. share.client ≡ self.now.client) }
     {
@@ -130,6 +152,11 @@ impl<J: Job, H: Runtime> Executor<J, H> {
     }
 
     /// This share, for another client: the jobs that it adds from now on are that client's.
+    ///
+    /// ```rust
+    /// let theirs = executor.try_clone()?.for_client(BACKUP);
+    /// let task = unblock(&theirs, Double(21))?;
+    /// ```
     pub fn for_client(self, client: u32) -> Executor<J, H>
         ensures { result ≡ record self { client = client } }
     {
@@ -184,6 +211,13 @@ impl<J: Job, H: Runtime> Executor<J, H> {
     }
 
     /// Adds a job of this share's client, as [`add_for`](Executor::add_for) does.
+    ///
+    /// Here `sleeper` is a job of the program's own, as the one at [`Job`]:
+    ///
+    /// ```rust
+    /// let added = executor.add(sleeper)?;
+    /// let _ = executor.wake(WakeNote::new(added.number()));
+    /// ```
     pub fn add(&self, job: J) -> Result<Added, Refused<J>>
         ensures refused { IfErr result (λ refused. refused.back ≡ job) }
         ensures client { IfOk result (λ added. added.client ≡ self.now.client) }
@@ -192,6 +226,10 @@ impl<J: Job, H: Runtime> Executor<J, H> {
     }
 
     /// Adds a job of a client, as [`Pool::add_for`](blocking_core::pool::Pool::add_for): a refused job is handed back.
+    ///
+    /// ```rust
+    /// let added: Added = executor.add_for(BACKUP, sleeper)?;
+    /// ```
     pub fn add_for(&self, client: u32, job: J) -> Result<Added, Refused<J>>
         ensures refused { IfErr result (λ refused. refused.back ≡ job) }
         ensures client { IfOk result (λ added. added.client ≡ client) }
@@ -205,6 +243,7 @@ impl<J: Job, H: Runtime> Executor<J, H> {
     }
 
     /// Wakes a job, as [`Pool::wake`](blocking_core::pool::Pool::wake).
+    /// (See the example at [`add`](Executor::add).)
     pub fn wake(&self, note: WakeNote) -> Woke {
         let mut starter = self.starter();
         // schedule: Wake, or Nothing
@@ -219,6 +258,12 @@ impl<J: Job, H: Runtime> Executor<J, H> {
     ///
     /// However many they are, one idle worker is notified, and drops them one after another. The others sleep on until another
     /// call notifies them, or until their own wait times out, after half a second at most.
+    ///
+    /// ```rust
+    /// // (here `is_gone` is what the job's `abandoned` answers)
+    /// is_gone.store(true, Ordering::Relaxed);
+    /// let count = executor.sweep();
+    /// ```
     pub fn sweep(&self) -> usize {
         let mut starter = self.starter();
         // schedule: Sweep, or Nothing
@@ -229,6 +274,11 @@ impl<J: Job, H: Runtime> Executor<J, H> {
     }
 
     /// The workers and jobs of one moment. A worker that isn't idle runs a job, and one that hasn't arrived is idle.
+    ///
+    /// ```rust
+    /// let counts = executor.counts();
+    /// let is_busy = counts.running == counts.workers && counts.queued > 0;
+    /// ```
     pub fn counts(&self) -> Counts
         ensures busy { result.workers ≡ result.idle + result.running }
         ensures order { result.arriving ≤ result.idle }
@@ -330,6 +380,10 @@ fn run<J: Job, R: Wait>(turn: &Turn, mut job: J, rt: &R) -> Finish<J> {
 }
 
 /// Sets the limit of an executor's workers, as it is. Idle workers over a lowered limit stop; running jobs go on.
+///
+/// ```rust
+/// set_max_blocking_threads(&executor, 4);
+/// ```
 pub fn set_max_blocking_threads<J: Job, H: Runtime>(executor: &Executor<J, H>, threads: usize)
     requires { 0 < threads }
 {
@@ -345,6 +399,15 @@ pub fn set_max_blocking_threads<J: Job, H: Runtime>(executor: &Executor<J, H>, t
 ///
 /// A job's client is the one that [`unblock_for`](crate::unblock_for) or [`add_for`](Executor::add_for) names, else that of the share which added it: 0, unless
 /// [`for_client`](Executor::for_client) named another.
+///
+/// ```rust
+/// // However many calls client 1 adds, six of them run at a time at most.
+/// set_client_limit(&executor, Some(6));
+/// let saved = unblock_for(&executor, 1, Double(21))?;
+///
+/// // None is set any more.
+/// set_client_limit(&executor, None);
+/// ```
 pub fn set_client_limit<J: Job, H: Runtime>(executor: &Executor<J, H>, limit: Option<usize>)
     requires { IfSome limit (λ most. 0 < most) }
 {

@@ -23,6 +23,12 @@ enum Stage<F: Drop, T: Drop> {
 /// The job of a call: it makes the call, puts the answer into its slot, wakes the owner, and is done.
 ///
 /// One that is dropped before it is done gives its slot up and calls the owner's waker, with no lock held.
+///
+/// It is the job type of an executor of one kind of call:
+///
+/// ```rust
+/// type Doublers<H> = Executor<CallJob<Double, H>, H>;
+/// ```
 pub struct CallJob<F: Call<Out: Drop> + Drop, H: Wait + Copy> {
     core: CallCore,
     stage: Stage<F, F::Out>,

@@ -12,6 +12,12 @@ impl<R: Wait + Clock + AllocGlobal + Copy> Runtime for R {}
 
 /// The handles of who makes a pool of its own and awaits its calls: a [`Runtime`] that also starts threads and that
 /// `block_on` takes.
+///
+/// ```rust
+/// fn doubled<H: Host>(rt: &H, executor: &Executor<CallJob<Double, H>, H>) -> io::Result<u64> {
+///     block_on(rt, unblock(executor, Double(21))?)
+/// }
+/// ```
 pub trait Host: Runtime + Threads + RandomSource + Send + Sync + 'static {}
 
 impl<R: Runtime + Threads + RandomSource + Send + Sync + 'static> Host for R {}

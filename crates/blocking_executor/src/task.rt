@@ -28,6 +28,16 @@ enum Asked {
 /// that nobody gets. A call that was given up goes when a worker takes it. Where its client is at its limit of running jobs, that is once
 /// another job of that client is over. A drop waits for no call. [`detach`](Task::detach) lets the call go on without an owner. A task
 /// whose job was dropped by somebody else stays pending.
+///
+/// A new task may be polled, as [`unblock`] promises. Whoever is given one requires it:
+///
+/// ```rust
+/// fn answer<H: Host>(rt: &H, task: Task<Double, H>) -> io::Result<u64>
+///     requires { task.is_taken ≡ false }
+/// {
+///     block_on(rt, task)
+/// }
+/// ```
 pub struct Task<F: Call<Out: Drop>, H: Wait + Copy> {
     // (who has none has added none)
     job: Added,
@@ -58,6 +68,13 @@ impl<F: Call<Out: Drop>, H: Wait + Copy> Task<F, H> {
     }
 
     /// Whether the answer was taken. A task may be polled as long as it wasn't.
+    ///
+    /// ```rust
+    /// if !task.is_taken() {
+    ///     let doubled = block_on(&rt, task)?;
+    ///     return Ok(doubled);
+    /// }
+    /// ```
     pub fn is_taken(&self) -> bool
         ensures { result ≡ self.now.is_taken }
     {
@@ -65,6 +82,10 @@ impl<F: Call<Out: Drop>, H: Wait + Copy> Task<F, H> {
     }
 
     /// Lets the call go on without an owner: it is made as any other, and its answer is dropped.
+    ///
+    /// ```rust
+    /// unblock(&executor, Double(4))?.detach();
+    /// ```
     pub fn detach(self) {
         let Task {
             job: _,
@@ -80,6 +101,14 @@ impl<F: Call<Out: Drop>, H: Wait + Copy> Task<F, H> {
 
     /// Gives the call up, at once: a call that wasn't begun need not be made, and one that runs goes on. The future gives the
     /// answer that was there before, or else None once the job is over.
+    ///
+    /// ```rust
+    /// match block_on(&rt, task.cancel())? {
+    ///     Some(doubled) => Ok(Some(doubled)),
+    ///     // (the call is over, and it was made too late or not at all)
+    ///     None => Ok(None),
+    /// }
+    /// ```
     pub fn cancel(self) -> Cancel<F, H>
         requires { self.is_taken ≡ false }
         ensures { result.is_taken ≡ false }
@@ -173,6 +202,7 @@ impl<F: Call<Out: Drop>, H: Wait + Copy> Future for Task<F, H> {
 
 /// A call that was cancelled: a future of the answer that was there before the cancel, or else of None, which comes once the
 /// job is over. Until that was taken it may be polled.
+/// (See the example at [`Task::cancel`].)
 #[derive(Drop)]
 pub struct Cancel<F: Call<Out: Drop>, H: Wait + Copy> {
     share: Arc<CallShare<F>>,
@@ -297,6 +327,14 @@ impl<F: Call<Out: Drop>, H: Wait + Copy> Future for Cancel<F, H> {
 /// Runs a call on the executor's pool, for the client of this share. Its memory is taken before it enters.
 ///
 /// A refused call is handed back, and nothing of it is left in the pool.
+///
+/// The call is queued at once, before any poll of its task, and a worker may begin it then:
+///
+/// ```rust
+/// let task = unblock(&executor, Double(21))?;
+/// // (here a worker may have made the call already)
+/// let doubled = block_on(&rt, task)?;
+/// ```
 pub fn unblock<F: Call<Out: Drop> + Drop, J: Job + Carries<CallJob<F, H>>, H: Runtime>(
     executor: &Executor<J, H>,
     call: F,
@@ -310,6 +348,14 @@ pub fn unblock<F: Call<Out: Drop> + Drop, J: Job + Carries<CallJob<F, H>>, H: Ru
 
 /// Runs a call of a client on the executor's pool, as [`unblock`] does: of each client no more jobs run than
 /// [`set_client_limit`](crate::set_client_limit) allows, while other clients' pass them by.
+///
+/// ```rust
+/// // The client of a backup. What names none is client 0's.
+/// const BACKUP: u32 = 1;
+///
+/// let saved = unblock_for(&executor, BACKUP, Double(21))?;
+/// let asked = unblock(&executor, Double(4))?;
+/// ```
 pub fn unblock_for<F: Call<Out: Drop> + Drop, J: Job + Carries<CallJob<F, H>>, H: Runtime>(
     executor: &Executor<J, H>,
     client: u32,

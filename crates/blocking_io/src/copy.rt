@@ -12,6 +12,14 @@ use std::error::Error;
 use std::{fmt, io};
 
 /// Why a copy failed. What was read and not yet written then is lost.
+///
+/// ```rust
+/// match block_on(&rt, copier)? {
+///     Ok(_) => "all is written and flushed",
+///     Err(CopyFault::Reading(_)) => "the reader failed",
+///     Err(CopyFault::Writing(_)) => "the writer failed",
+/// }
+/// ```
 #[derive(Clone, Copy, Debug)]
 pub enum CopyFault {
     /// The reader failed, or reading couldn't begin.
@@ -55,6 +63,13 @@ impl From<CopyFault> for io::Error {
 /// took nothing and the flush after it knows of no fault. After a fault a part of the last piece may be lost.
 ///
 /// Until it was ready it may be polled. The copier itself asks for no memory then; its reader and its writer may.
+///
+/// ```rust
+/// let executor: Executor<CopyJobs<H, File, File>, H> = Executor::new(rt, Some("2"))?;
+/// let reader: Reader<File, H, CopyJobs<H, File, File>> = Unblock::new(executor.try_clone()?, from);
+/// let writer: Writer<File, H, CopyJobs<H, File, File>> = Unblock::new(executor, to);
+/// let copied = block_on(&rt, Copier::new(rt.alloc(), reader, writer, 65_536)?)??;
+/// ```
 #[derive(Drop)]
 pub struct Copier<A, B> {
     reader: A,
@@ -111,6 +126,12 @@ impl<A: AsyncRead + Drop, B: AsyncWrite + Drop> Copier<A, B> {
     }
 
     /// The reader and the writer, at any time. What was read and not yet written is lost.
+    ///
+    /// ```rust
+    /// let mut copier = Copier::new(rt.alloc(), reader, writer, 65_536)?;
+    /// let copied = block_on(&rt, &mut copier)??;
+    /// let (reader, writer) = copier.into_parts();
+    /// ```
     pub fn into_parts(self) -> (A, B)
         ensures { result ≡ (self.reader, self.writer) }
     {

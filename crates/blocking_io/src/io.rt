@@ -10,9 +10,27 @@ use std::io;
 use std::io::SeekFrom;
 
 /// Why a call on a lent handle of the system failed.
+///
+/// A `?` passes it on as an `io::Error`. There are two here, since `block_on` itself may fail:
+///
+/// ```rust
+/// block_on(&rt, file.flush())??;
+/// ```
 pub type IoFault = Fault<io::Error>;
 
 /// What is read by polls.
+///
+/// A function over any reader requires that it is open:
+///
+/// ```rust
+/// fn all<A: AsyncRead, H: Host>(rt: &H, reader: &mut A) -> io::Result<Vec<u8>>
+///     requires { A.closed reader.old → ⊥ }
+/// {
+///     let mut out = Vec::new(rt.alloc());
+///     block_on(rt, reader.read_to_end(&mut out))??;
+///     Ok(out)
+/// }
+/// ```
 pub trait AsyncRead {
     /// Whether it was closed. What is closed isn't read.
     ghost closed: { Self → Type 0 };
@@ -25,6 +43,12 @@ pub trait AsyncRead {
     /// fault of its own, or a refusal where reading couldn't begin, nothing was read, and it may be read again.
     ///
     /// A poll that waits has registered, and is polled again.
+    ///
+    /// ```rust
+    /// fn poll(&mut self, cx: &mut Context<'_>) -> Poll<Result<usize, IoFault>> {
+    ///     self.reader.poll_read(cx, &mut self.piece)
+    /// }
+    /// ```
     fn poll_read(&mut self, cx: &mut Context<'_>, buf: &mut [u8]) -> Poll<Result<usize, IoFault>>
         requires { closed self.old → ⊥ }
         ensures open { closed self.new → ⊥ }
@@ -36,6 +60,18 @@ pub trait AsyncRead {
 }
 
 /// What is written by polls. What a poll took for writing is written later, and a flush waits for that.
+///
+/// A function over any writer requires that it is open:
+///
+/// ```rust
+/// fn log<A: AsyncWrite, H: Host>(rt: &H, log: &mut A, line: &[u8]) -> io::Result<()>
+///     requires { A.closed log.old → ⊥ }
+/// {
+///     block_on(rt, log.write_all(line))??;
+///     block_on(rt, log.flush())??;
+///     Ok(())
+/// }
+/// ```
 pub trait AsyncWrite {
     /// Whether it was closed. What is closed isn't written.
     ghost closed: { Self → Type 0 };
@@ -49,6 +85,12 @@ pub trait AsyncWrite {
     /// fault, or a refusal where writing couldn't begin, nothing of `bytes` was taken.
     ///
     /// A poll that waits has registered, and is polled again.
+    ///
+    /// ```rust
+    /// fn poll(&mut self, cx: &mut Context<'_>) -> Poll<Result<usize, IoFault>> {
+    ///     self.writer.poll_write(cx, self.line)
+    /// }
+    /// ```
     fn poll_write(&mut self, cx: &mut Context<'_>, bytes: &[u8]) -> Poll<Result<usize, IoFault>>
         requires { closed self.old → ⊥ }
         ensures open { closed self.new → ⊥ }

@@ -15,6 +15,11 @@ use std::io::ErrorKind;
 pub trait AsyncReadExt: AsyncRead {
     /// A future that reads once: what is there, as much as `buf` holds. It answers how many bytes that were; none, where `buf` has room
     /// for one, means the end. It fails as [`AsyncRead::poll_read`] does. Until it was ready it may be polled.
+    ///
+    /// ```rust
+    /// let count = block_on(&rt, file.read(&mut piece))??;
+    /// out.extend_from_slice(&piece[..count])?;
+    /// ```
     final fn read<'a>(&'a mut self, buf: &'a mut [u8]) -> ReadSome<'a, Self>
     where
         Self: Sized,
@@ -28,6 +33,11 @@ pub trait AsyncReadExt: AsyncRead {
 
     /// A future that fills `buf`. Where the end comes before, it answers an error of the kind `UnexpectedEof`, else it fails as
     /// [`AsyncRead::poll_read`] does. What was read until then stands in the front of `buf`. Until it was ready it may be polled.
+    ///
+    /// ```rust
+    /// let mut record = [0u8; 4];
+    /// block_on(&rt, reader.read_exact(&mut record))??;
+    /// ```
     final fn read_exact<'a>(&'a mut self, buf: &'a mut [u8]) -> ReadExact<'a, Self>
     where
         Self: Sized,
@@ -46,6 +56,11 @@ pub trait AsyncReadExt: AsyncRead {
     /// A future that reads to the end, and adds what it reads to `out`. It answers how many bytes that were. After a fault `out` has what
     /// was read until then. Where there is no memory for more the fault is an error of the kind `OutOfMemory`, and no byte is lost. Until
     /// it was ready it may be polled.
+    ///
+    /// ```rust
+    /// let mut out = Vec::new(rt.alloc());
+    /// let count = block_on(&rt, reader.read_to_end(&mut out))??;
+    /// ```
     final fn read_to_end<'a>(&'a mut self, out: &'a mut Vec<u8>) -> ReadToEnd<'a, Self>
     where
         Self: Sized,

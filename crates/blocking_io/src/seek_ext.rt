@@ -9,6 +9,10 @@ use std::io::SeekFrom;
 /// Whole seeks of what is moved by polls.
 pub trait AsyncSeekExt: AsyncSeek {
     /// A future that moves to a position. It answers where that is, counted in bytes from the start. Until it was ready it may be polled.
+    ///
+    /// ```rust
+    /// let length = block_on(&rt, file.seek(SeekFrom::End(0)))??;
+    /// ```
     final fn seek<'a>(&'a mut self, to: SeekFrom) -> SeekTo<'a, Self>
     where
         Self: Sized,

@@ -13,6 +13,10 @@ pub trait AsyncWriteExt: AsyncWrite {
     /// A future that writes once: the first of `bytes`, as many as are taken. It answers how many bytes that were; none, where there is
     /// one, means that an earlier write failed, which a flush tells. It fails as [`AsyncWrite::poll_write`] does. Until it was ready it may
     /// be polled.
+    ///
+    /// ```rust
+    /// let taken = block_on(&rt, writer.write(b"a spruce"))??;
+    /// ```
     final fn write<'a>(&'a mut self, bytes: &'a [u8]) -> WriteSome<'a, Self>
     where
         Self: Sized,
@@ -30,6 +34,11 @@ pub trait AsyncWriteExt: AsyncWrite {
     /// A future that has all of `bytes` taken for writing; that they are written, a flush tells. Where an earlier write failed it answers
     /// that fault, or [`Fault::WriteZero`] where the writer takes no more and knows of none; else it fails as [`AsyncWrite::poll_write`]
     /// does. How many bytes were taken before isn't known then. Until it was ready it may be polled.
+    ///
+    /// ```rust
+    /// block_on(&rt, file.write_all(line))??;
+    /// block_on(&rt, file.flush())??;
+    /// ```
     final fn write_all<'a>(&'a mut self, bytes: &'a [u8]) -> WriteAll<'a, Self>
     where
         Self: Sized,
@@ -48,6 +57,10 @@ pub trait AsyncWriteExt: AsyncWrite {
     }
 
     /// A future that waits until all that was taken is written and flushed, or answers why it isn't. It may be polled again.
+    ///
+    /// ```rust
+    /// block_on(&rt, file.flush())??;
+    /// ```
     final fn flush<'a>(&'a mut self) -> Flush<'a, Self>
     where
         Self: Sized,
@@ -57,6 +70,11 @@ pub trait AsyncWriteExt: AsyncWrite {
     }
 
     /// A future that flushes, and then closes. After a fault the writer is open still. It may be polled again.
+    ///
+    /// ```rust
+    /// block_on(&rt, writer.close())??;
+    /// let is_gone = writer.is_closed();
+    /// ```
     final fn close<'a>(&'a mut self) -> Close<'a, Self>
     where
         Self: Sized,

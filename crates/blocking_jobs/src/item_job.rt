@@ -16,6 +16,13 @@ use std::sync::{Arc, Wait};
 ///
 /// One that is dropped before it is done drops the iterator and gives its slot up, with no lock held. That wakes an owner who waits there for
 /// the iterator, and none who waits at the pipe. A pool drops a job only once its owner is gone.
+///
+/// It is the job type of an executor of one kind of iterator:
+///
+/// ```rust
+/// let executor: Executor<ItemJob<Range<u32>, u32, H>, H> = Executor::new(rt, Some("1"))?;
+/// let mut numbers: Items<Range<u32>, u32, H> = Unblock::with_capacity(4, executor, 5..8);
+/// ```
 pub struct ItemJob<T: Iterator<Item = I> + Drop, I: Drop, H: Wait + Copy> {
     core: ItemCore,
     // The iterator, until it is given back.

@@ -74,6 +74,13 @@ impl<F: CallOn<T, Out: Drop>, T, H: Wait + AllocGlobal + Copy> ResultPlace<F, T,
 ///
 /// One that is dropped before it is done drops the handle and gives its slot up, with no lock held. That wakes an owner who waits there for
 /// the handle, and none who waits for the result. A pool drops a job only once its owner is gone.
+///
+/// It is the job type of an executor of one kind of operation:
+///
+/// ```rust
+/// let executor: Executor<OpJob<SyncAll, File, H>, H> = Executor::new(rt, Some("1"))?;
+/// let mut file: Unblock<File, (), OpJob<SyncAll, File, H>, H> = Unblock::new(executor, file);
+/// ```
 pub struct OpJob<F: CallOn<T, Out: Drop> + Drop, T: Drop, H: Wait + Copy> {
     core: OpCore,
     // The operation, until it is called.

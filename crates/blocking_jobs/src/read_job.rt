@@ -55,6 +55,13 @@ impl<T: Drop, H: Wait + Copy> Model for Reading<T, H> {
 ///
 /// One that is dropped before it is done drops the reader and gives its slot up, with no lock held. That wakes an owner who waits there for
 /// the reader, and none who waits at the pipe. A pool drops a job only once its owner is gone.
+///
+/// It is the job type of an executor of one kind of reader:
+///
+/// ```rust
+/// let executor: Executor<ReadJob<File, H>, H> = Executor::new(rt, Some("1"))?;
+/// let mut file: Reader<File, H> = Unblock::new(executor, file);
+/// ```
 pub struct ReadJob<T: Drop, H: Wait + Copy> {
     core: ReadCore,
     // The reader at work, until it is given back.

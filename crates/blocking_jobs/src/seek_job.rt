@@ -17,6 +17,14 @@ use std::sync::{Arc, Wait};
 ///
 /// One that is dropped before it is done drops the handle and gives its slot up, with no lock held. That wakes an owner who waits there for
 /// the handle. A pool drops a job only once its owner is gone.
+///
+/// It is the job type of an executor that moves one kind of handle:
+///
+/// ```rust
+/// let executor: Executor<SeekJob<File, H>, H> = Executor::new(rt, Some("1"))?;
+/// let mut file: Unblock<File, (), SeekJob<File, H>, H> = Unblock::new(executor, file);
+/// let place = block_on(&rt, file.seek(SeekFrom::Start(2)))??;
+/// ```
 pub struct SeekJob<T: Drop, H: Wait + Copy> {
     core: SeekCore,
     // The handle, until it is given back.

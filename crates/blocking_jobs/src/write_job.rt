@@ -49,6 +49,13 @@ impl<T: Drop, H: Wait + Copy> Model for Writing<T, H> {
 ///
 /// One that is dropped before it is done drops the writer and gives its slot up, with no lock held. That wakes an owner who waits there for
 /// the writer, and none who waits at the pipe. A pool drops a job only once its owner is gone. What wasn't written then is lost.
+///
+/// It is the job type of an executor of one kind of writer:
+///
+/// ```rust
+/// let executor: Executor<WriteJob<File, H>, H> = Executor::new(rt, Some("1"))?;
+/// let mut file: Writer<File, H> = Unblock::new(executor, file);
+/// ```
 pub struct WriteJob<T: Drop, H: Wait + Copy> {
     core: WriteCore<io::Error>,
     // The writer at work, until it is given back.

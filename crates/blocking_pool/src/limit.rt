@@ -16,6 +16,14 @@ pub const MAX_THREADS_ENV: &str = "BLOCKING_MAX_THREADS";
 
 /// The limit of workers that a text names: a number of 64 bits in decimal digits, after one `+` or none, brought between
 /// [`MIN_MAX_THREADS`] and [`MAX_MAX_THREADS`]. No text, and any other text, give [`DEFAULT_MAX_THREADS`]. Takes no memory.
+///
+/// ```rust
+/// // 8
+/// let named = max_threads(Some("8"));
+///
+/// // 500
+/// let unnamed = max_threads(None);
+/// ```
 pub fn max_threads(text: Option<&str>) -> usize
     ensures { result ≡ limit_of_setting (option_map (λ t. t.now) text.entry) }
 {

@@ -10,6 +10,13 @@ use std::io;
 ///
 /// A fault comes as an error of the system, as `io::Error::from` makes one of it. What the kit reads ahead, as a `BufReader` does, is lost
 /// where that is dropped or taken apart.
+///
+/// The lines of what is read, by the kit's `BufReader` and `lines`:
+///
+/// ```rust
+/// let reader = BufReader::new(rt.alloc(), CompatReader::new(reader))?;
+/// let lines = block_on(rt, lines(rt.alloc(), reader).try_collect(rt.alloc()))??;
+/// ```
 #[derive(Drop)]
 pub struct CompatReader<A: AsyncRead + Drop> {
     inner: A,

@@ -12,6 +12,12 @@ use std::io::ErrorKind;
 /// What a write took is written later; a flush that is ready says that it was. A shutdown flushes and then closes, so that the handle goes;
 /// from its first poll on a write fails with [`ErrorKind::BrokenPipe`]. A shutdown that failed may be asked for again. A fault comes as an
 /// error of the system, as `io::Error::from` makes one of it.
+///
+/// ```rust
+/// let writer = CompatWriter::new(writer);
+/// let (writer, _) = block_on(rt, write_all(writer, b"a spruce".as_slice()))??;
+/// let writer = block_on(rt, shutdown(writer))??;
+/// ```
 #[derive(Drop)]
 pub struct CompatWriter<A: AsyncWrite + Drop> {
     inner: A,

@@ -9,6 +9,13 @@ use futures::task::{Context, Poll};
 /// What the kit's `tokio` reads or writes, as what is read or written by this library's polls.
 ///
 /// It is closed, for writing alone, by a shutdown that is done. It waits for no pool.
+///
+/// A copy from the kit's pipe to a lent file:
+///
+/// ```rust
+/// let (near, far) = duplex(rt.alloc(), 3)?;
+/// let copier = Copier::new(rt.alloc(), FromTokio::new(near), to, 65_536)?;
+/// ```
 #[derive(Drop)]
 pub struct FromTokio<R> {
     inner: R,

@@ -52,6 +52,17 @@ use std::{fmt, io, mem};
 /// - So an owner of standard input or of a socket that is dropped may have eaten bytes that nobody received.
 ///
 /// `I` is the type of the items of a handle that is an iterator; any type will do for another.
+///
+/// An owner that isn't new is asked whether it is closed, since its calls require that it isn't:
+///
+/// ```rust
+/// let mut file: Reader<File, H> = Unblock::new(executor, file);
+/// let count = block_on(&rt, file.read(&mut piece))??;
+///
+/// if !file.is_closed() {
+///     block_on(&rt, file.read_to_end(&mut out))??;
+/// }
+/// ```
 pub struct Unblock<T: Drop, I: Drop, J: Job, H: Runtime> {
     place: Place<T, I, H>,
     // The memory of the last session, for the next one of its kind.
@@ -67,6 +78,14 @@ impl<T: Drop, I: Drop, J: Job, H: Runtime> Unblock<T, I, J, H> {
     ghost use Rattle.blocking_unblock.specs.Owners.{IsClosed};
 
     /// The owner of a handle, whose sessions have pipes for 8,388,608 bytes or 8192 items.
+    ///
+    /// It takes no memory itself. A session that reads or writes takes that of its pipe, and three pieces of 65,536 bytes more. The next session
+    /// of its kind uses it again.
+    ///
+    /// ```rust
+    /// let executor: Executor<ReadJob<File, H>, H> = Executor::new(rt, Some("1"))?;
+    /// let mut file: Reader<File, H> = Unblock::new(executor, file);
+    /// ```
     pub fn new(executor: Executor<J, H>, handle: T) -> Self
         ensures place { result.place ≡ AtOwner handle }
         ensures bytes { result.capacity.bytes ≡ 8388608 }
@@ -84,6 +103,10 @@ impl<T: Drop, I: Drop, J: Job, H: Runtime> Unblock<T, I, J, H> {
     /// The owner of a handle, whose sessions have pipes for at most `capacity` bytes or items. One that writes has its memory in pieces of
     /// 65,536 bytes, or of the capacity where that is less. One that reads has it in such pieces or two halves of the capacity. It takes
     /// three of them in addition to the capacity, or not quite four where they don't fill it evenly.
+    ///
+    /// ```rust
+    /// let mut reader: Reader<File, H> = Unblock::with_capacity(65_536, executor, file);
+    /// ```
     pub fn with_capacity(capacity: usize, executor: Executor<J, H>, handle: T) -> Self
         requires { 0 < capacity }
         ensures place { result.place ≡ AtOwner handle }
@@ -101,6 +124,10 @@ impl<T: Drop, I: Drop, J: Job, H: Runtime> Unblock<T, I, J, H> {
 
     /// This owner, whose sessions are another client's from the next one on: of each client no more jobs run than
     /// [`set_client_limit`](blocking_executor::set_client_limit) allows. One that is under way keeps its client. Takes no memory.
+    ///
+    /// ```rust
+    /// let mut reader: Reader<File, H> = Unblock::new(executor, file).for_client(7);
+    /// ```
     pub fn for_client(self, client: u32) -> Self
         ensures client { result.executor ≡ record self.executor { client = client } }
         ensures place { result.place ≡ self.place }
@@ -123,6 +150,11 @@ impl<T: Drop, I: Drop, J: Job, H: Runtime> Unblock<T, I, J, H> {
     }
 
     /// Whether the handle was dropped. Then nothing more may be asked.
+    ///
+    /// ```rust
+    /// block_on(&rt, writer.close())??;
+    /// let is_gone = writer.is_closed();
+    /// ```
     pub fn is_closed(&self) -> bool
         ensures { (result ≡ true) ↔ IsClosed self.now.place }
     {
@@ -151,6 +183,11 @@ impl<T: Drop, I: Drop, J: Job, H: Runtime> Unblock<T, I, J, H> {
 
     /// A future of the handle, for good. A session that is under way is stopped first: what was read ahead is lost, what is to be written
     /// is written and flushed, and its fault isn't told. Until the handle was taken it may be polled.
+    ///
+    /// ```rust
+    /// let reader: Reader<File, H> = Unblock::new(executor, file);
+    /// let file = block_on(&rt, reader.into_inner())?;
+    /// ```
     pub fn into_inner(self) -> IntoInner<T, I, J, H>
         requires { IsClosed self.place → ⊥ }
         ensures { result.owner ≡ Some self }
@@ -162,6 +199,14 @@ impl<T: Drop, I: Drop, J: Job, H: Runtime> Unblock<T, I, J, H> {
     /// itself. Where no session can begin the future answers why, with the operation. Until it was ready it may be polled.
     ///
     /// One that is dropped gives the result up: the operation is made all the same, once its session began.
+    ///
+    /// Here `SyncAll` is the operation of the example at [`CallOn`], whose result may be an error: hence the third `?`.
+    ///
+    /// ```rust
+    /// let executor: Executor<OpJob<SyncAll, File, H>, H> = Executor::new(rt, Some("1"))?;
+    /// let mut file: Unblock<File, (), OpJob<SyncAll, File, H>, H> = Unblock::new(executor, file);
+    /// block_on(&rt, file.with_mut(SyncAll))???;
+    /// ```
     pub fn with_mut<'a, F: CallOn<T, Out: Drop> + Drop>(
         &'a mut self,
         operation: F,
@@ -471,6 +516,14 @@ impl<T: Drop, I: Drop, J: Job, H: Runtime> Unblock<T, I, J, H> {
     /// written and flushed, and its fault isn't told.
     ///
     /// A poll that waits has registered, and is polled again.
+    ///
+    /// ```rust
+    /// match reader.poll_idle(cx) {
+    ///     Poll::Pending => Poll::Pending,
+    ///     // (no session is under way now)
+    ///     Poll::Ready(()) => Poll::Ready(()),
+    /// }
+    /// ```
     pub fn poll_idle(&mut self, cx: &mut Context<'_>) -> Poll<()>
         requires { IsClosed self.old.place → ⊥ }
         ensures follows { Follows GetMutCall self.old.place (reply_of_get result) self.new.place }
@@ -488,6 +541,12 @@ impl<T: Drop, I: Drop, J: Job, H: Runtime> Unblock<T, I, J, H> {
     }
 
     /// The handle, where it is with its owner. No session is under way then, and none begins while it is lent.
+    ///
+    /// ```rust
+    /// if let Some(bytes) = reader.handle_mut() {
+    ///     bytes.set_position(2);
+    /// }
+    /// ```
     pub fn handle_mut(&mut self) -> Option<&mut T>
         ensures* lends { sem 𝓛 (lends_handle T.row I.row J.row H.row J.Job self.entry result) }
         ensures handle { option_copied_mut result ≡ handle_in self.old.place }
@@ -496,6 +555,13 @@ impl<T: Drop, I: Drop, J: Job, H: Runtime> Unblock<T, I, J, H> {
     }
 
     /// The handle itself, as [`Unblock::poll_idle`] waits for it.
+    ///
+    /// ```rust
+    /// match reader.poll_get_mut(cx) {
+    ///     Poll::Pending => Poll::Pending,
+    ///     Poll::Ready(bytes) => Poll::Ready(bytes.position()),
+    /// }
+    /// ```
     pub fn poll_get_mut(&mut self, cx: &mut Context<'_>) -> Poll<&mut T>
         requires { IsClosed self.old.place → ⊥ }
         ensures follows { (place : _) × Follows GetMutCall self.old.place (reply_of_get result) place
@@ -627,6 +693,13 @@ impl<T: Iterator<Item = I> + Drop, I: Drop, J: Job + Carries<ItemJob<T, I, H>>, 
     /// The next item, or None at the end of the iterator, which a further poll asks again. Where no session can begin the answer says why.
     ///
     /// A poll that waits has registered, and is polled again.
+    ///
+    /// The kit's `StreamExt::next` awaits it:
+    ///
+    /// ```rust
+    /// let mut numbers: Items<Range<u32>, u32, H> = Unblock::with_capacity(4, executor, 5..8);
+    /// let first = block_on(&rt, numbers.next())?.transpose()?;
+    /// ```
     fn poll_next(&mut self, cx: &mut Context<'_>) -> Poll<Option<Result<I, Refusal>>>
         requires open { IsClosed self.old.place → ⊥ }
         requires asked { (at : T) → T.can_next at }

@@ -24,6 +24,17 @@ const TURNS: u32 = 24;
 /// A poll that finds something makes no waker. One that waits is seated by the waker of its context, and leaves its seat to the next poll.
 ///
 /// Dropping it closes nothing, and a job that waits for room stays parked: it is closed first.
+///
+/// A poll asks as that of a [`RecvEnd`](crate::RecvEnd) does. Without a wait:
+///
+/// ```rust
+/// if let Some((number, note)) = end.try_receive() {
+///     sum = sum.saturating_add(number);
+///     if let Some(note) = note {
+///         let _ = executor.wake(note);
+///     }
+/// }
+/// ```
 #[derive(Drop)]
 pub struct ItemRecvEnd<X: Drop, R: PlaceRule<X>, H: Wait + Copy> {
     consumer: Consumer<X, Global, ByPlace<R>>,

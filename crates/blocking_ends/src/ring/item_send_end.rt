@@ -49,6 +49,19 @@ pub enum WhyUnsent {
 /// A waker that a call answers was taken out of its seat, and is to be called. One that is let go calls itself.
 ///
 /// Dropping it closes nothing, and the owner goes on waiting: it is closed first.
+///
+/// In a job's `step`, where `me` is its number:
+///
+/// ```rust
+/// match self.end.send(me, self.next) {
+///     ItemSending::Sent(_) => {
+///         self.next = self.next.wrapping_add(1);
+///         JobStep::Again
+///     }
+///     ItemSending::Parked(_, _) => JobStep::Waiting,
+///     ItemSending::Unsent(_, _) => JobStep::Done,
+/// }
+/// ```
 #[derive(Drop)]
 pub struct ItemSendEnd<X: Drop, R: PlaceRule<X>, H: Wait + Copy> {
     producer: Producer<X, Global, ByPlace<R>>,

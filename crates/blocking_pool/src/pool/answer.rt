@@ -8,6 +8,14 @@ use std::error::Error;
 use std::{fmt, io};
 
 /// Why a job was refused.
+///
+/// ```rust
+/// // Whether it may help to ask again, with what came back.
+/// match refused.why {
+///     Refusal::Memory | Refusal::NoWorker => true,
+///     Refusal::Numbers => false,
+/// }
+/// ```
 #[derive(Clone, Copy, Debug, PartialEq, Eq)]
 pub enum Refusal {
     /// There was no memory. Asking again may help, once some was given back.
@@ -75,6 +83,13 @@ impl From<Refusal> for io::Error {
 ///
 /// It shows its reason alone, so that any job and any call can be refused with an error that a `?` passes on. That lets what
 /// came back go: who wants it takes it out first.
+///
+/// ```rust
+/// match unblock(&executor, Double(21)) {
+///     Ok(task) => block_on(&rt, task),
+///     Err(Refused { back, why: _ }) => Ok(back.call()),
+/// }
+/// ```
 #[derive(Drop)]
 #[derive_where(Debug)]
 pub struct Refused<X: Drop> {

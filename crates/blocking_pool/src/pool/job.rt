@@ -15,6 +15,18 @@ pub enum JobStep {
 }
 
 /// A job of a pool: a worker calls `step` until it is done or waits.
+///
+/// A program's own job may wait, and a wake puts it back into the queue. This is the `step` of one that waits once:
+///
+/// ```rust
+/// fn step(&mut self, _me: JobNo) -> JobStep {
+///     if self.has_slept {
+///         return JobStep::Done;
+///     }
+///     self.has_slept = true;
+///     JobStep::Waiting
+/// }
+/// ```
 pub trait Job: Drop {
     /// Which answers `abandoned` may give: its mark itself, or either where another thread may set the mark.
     ghost may_answer: { Self → Bool → Type 0 };
@@ -32,6 +44,17 @@ pub trait Job: Drop {
 }
 
 /// A job type that can carry a named job.
+///
+/// A function takes any executor whose jobs may be those of a call `Double`:
+///
+/// ```rust
+/// fn doubled<J: Job + Carries<CallJob<Double, H>>, H: Host>(
+///     rt: &H,
+///     executor: &Executor<J, H>,
+/// ) -> io::Result<u64> {
+///     block_on(rt, unblock(executor, Double(21))?)
+/// }
+/// ```
 pub trait Carries<K> {
     ghost wrapped: { K → Self };
 

@@ -54,6 +54,12 @@ impl WorkerPass {
 }
 
 /// A wake that is due to a job. It has no `Drop`: it has to be spent by [`Pool::wake`](crate::pool::Pool::wake).
+///
+/// Whoever knows a job's number makes one, and spends it by the executor:
+///
+/// ```rust
+/// let _ = executor.wake(WakeNote::new(added.number()));
+/// ```
 pub struct WakeNote {
     job: JobNo,
 }
