@@ -379,7 +379,7 @@ fn run<J: Job, R: Wait>(turn: &Turn, mut job: J, rt: &R) -> Finish<J> {
     unreachable!()
 }
 
-/// Sets the limit of an executor's workers, as it is. Idle workers over a lowered limit stop; running jobs go on.
+/// Sets the limit of an executor's workers to this number, which isn't clamped as a text's is. Idle workers over a lowered limit stop; running jobs go on.
 ///
 /// ```rust
 /// set_max_blocking_threads(&executor, 4);
@@ -393,7 +393,7 @@ pub fn set_max_blocking_threads<J: Job, H: Runtime>(executor: &Executor<J, H>, t
     executor.leave(held, bell);
 }
 
-/// Sets the limit of running jobs for each client, as it is: none, or a number above 0. It holds for jobs that are taken from now on. A lowered
+/// Sets how many jobs of each client may run at a time: None for any number, or a number above 0. It holds for jobs that are taken from now on. A lowered
 /// limit stops no running job, and its client's next one waits until fewer run than it says. All idle workers are notified where the limit was raised or
 /// let go. This call holds the pool's lock while it goes through the clients where a limit is to stand, and through all queued jobs where one begins or goes.
 ///

@@ -63,8 +63,8 @@ impl CallProgress {
         self.core.answer(Answer::Put { woke });
     }
 
-    /// The waker that was taken was called.
-    pub fn wake(&mut self)
+    /// Notes that the waker which was taken was called.
+    pub fn note_wake(&mut self)
         ensures { self.new ≡ progress_after_wake self.old }
     {
         self.core.answer(Answer::Delivered);

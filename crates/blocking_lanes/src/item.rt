@@ -69,8 +69,8 @@ impl ItemProgress {
         }
     }
 
-    /// The waker that was taken was called.
-    pub fn wake(&mut self)
+    /// Notes that the waker which was taken was called.
+    pub fn note_wake(&mut self)
         ensures { self.new ≡ progress_with self.old by.Delivered }
     {
         self.core.answer(ItemAnswer::Delivered);

@@ -744,7 +744,7 @@ impl Owner {
         ensures { IsWorked (worked (of_job.Items job.old) self.old) (of_job.Items job.old) self.old result (of_job.Items job.new) self.new }
     {
         if let ItemAction::Deliver = job.next() {
-            job.wake();
+            job.note_wake();
             return Some(Act::HolderWoken);
         }
         let Some(session) = &mut self.session else {
@@ -758,7 +758,7 @@ impl Owner {
         ensures { IsWorked (worked (of_job.Read job.old) self.old) (of_job.Read job.old) self.old result (of_job.Read job.new) self.new }
     {
         if let ReadAction::Deliver = job.next() {
-            job.wake();
+            job.note_wake();
             return Some(Act::HolderWoken);
         }
         let Some(session) = &mut self.session else {
@@ -774,7 +774,7 @@ impl Owner {
         ensures err { OnErr result ((job.new ≡ job.old) × (self.new ≡ self.old)) }
     {
         if let WriteAction::Deliver = job.next() {
-            job.wake();
+            job.note_wake();
             return Ok(Some(Act::HolderWoken));
         }
         let Some(session) = &mut self.session else {
@@ -788,7 +788,7 @@ impl Owner {
         ensures { IsWorked (worked (of_job.Seek job.old) self.old) (of_job.Seek job.old) self.old result (of_job.Seek job.new) self.new }
     {
         if let SeekAction::Deliver = job.next() {
-            job.wake();
+            job.note_wake();
             return Some(Act::HolderWoken);
         }
         let Some(session) = &mut self.session else {
@@ -802,7 +802,7 @@ impl Owner {
         ensures { IsWorked (worked (of_job.Operate job.old) self.old) (of_job.Operate job.old) self.old result (of_job.Operate job.new) self.new }
     {
         if let OpAction::Deliver = job.next() {
-            job.wake();
+            job.note_wake();
             return Some(Act::HolderWoken);
         }
         let Some(session) = &mut self.session else {

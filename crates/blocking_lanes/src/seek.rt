@@ -88,8 +88,8 @@ impl SeekProgress {
         }
     }
 
-    /// The waker that was taken was called.
-    pub fn wake(&mut self)
+    /// Notes that the waker which was taken was called.
+    pub fn note_wake(&mut self)
         ensures { self.new ≡ progress_with self.old by.Delivered }
     {
         self.core.answer(SeekAnswer::Delivered);

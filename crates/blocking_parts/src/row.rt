@@ -170,7 +170,7 @@ fn act_for_task(call: &mut CallProgress, task: &mut Task, stage: Stage) -> Optio
                 Some(Act::Finished(HolderWaker::in_seat(wake)))
             }
             Action::Deliver => {
-                call.wake();
+                call.note_wake();
                 Some(Act::HolderWoken)
             }
         },

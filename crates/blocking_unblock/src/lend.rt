@@ -72,7 +72,8 @@ pub(crate) trait Lends<T: Drop, I: Drop, J: Job, H: Runtime> {
     fn keep(&mut self, item: I)
         ensures { keeps self.new Kept.Item };
 
-    /// Takes the result of an operation out of its place, or waits there for it.
+    /// Takes the result of an operation out of its place, or is seated there, and answers the seat. A session without a result has nothing to wait
+    /// for, and answers None.
     fn poll_result(&mut self, cx: &mut Context<'_>) -> Option<Seat<OfSlot>>
         requires { keeps self.old Kept.Way }
         ensures gave { IfNone result (keeps self.new Kept.Gave) }
