@@ -101,7 +101,7 @@ def sources(files):
             if module.split("::")[0].endswith("_tests"):
                 yield from (("tests", *test) for test in tests_of(module, parts))
             else:
-                of = "theorems" if module.startswith("blocking_theorems") else "items"
+                of = "theorems" if module.startswith("blocking_world_law_tests") else "items"
                 yield from ((of, *item) for item in items_of(module, parts))
 
 
@@ -120,11 +120,11 @@ def definitions_of(text):
 
 
 def specs(files):
-    """The definitions of each crate's specs. Those of blocking_laws are laws."""
+    """The definitions of each crate's specs. Those of blocking_world_laws are laws."""
     for path, text in files.items():
         found = re.match(r"crates/(\w+)/specs/(.*)\.antt$", path)
         if found:
-            of = "laws" if found[1] == "blocking_laws" else "definitions"
+            of = "laws" if found[1] == "blocking_world_laws" else "definitions"
             yield from ((of, f"{found[1]} {found[2]}.{name}", lines) for name, lines in definitions_of(text))
 
 

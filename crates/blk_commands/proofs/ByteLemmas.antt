@@ -12,7 +12,7 @@ use Rattle.hex.specs.Hex.{IsBytes, decode_of, decode_pairs, digit_or_error, hex_
 use Rattle.hex.specs.declared.error.FromHexError.{FromHexError}
 use Rattle.hex.specs.declared.error.FromHexError.TheVariants.{OddLength}
 use Rattle.hex.proofs.HexLemmas.{decode_of-even, decode_pairs-ok}
-use Rattle.blocking_laws.specs.Hex.{hex_digits, hex_text}
+use Rattle.blocking_world_laws.specs.Hex.{hex_digits, hex_text}
 use Rattle.blk_commands.specs.Bytes.{SaysBytes, bytes_of, may_be_digits}
 
 -- ---- digits

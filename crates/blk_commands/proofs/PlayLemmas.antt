@@ -6,11 +6,11 @@ use Rattle.std.proofs.lemmas.List.Elements.{All-append}
 use Rattle.std.specs.Prelude.{reverse}
 use Rattle.std.specs.Global.{Global}
 use Rattle.std.specs.declared.alloc.AllocError.{AllocError}
-use Rattle.blocking_laws.specs.Legal.{Legal}
+use Rattle.blocking_world_laws.specs.Legal.{Legal}
 use Rattle.blocking_world.specs.Runs.{Adds, Follow, History}
-use Rattle.blocking_laws.specs.declared.event.Event.{Event}
-use Rattle.blocking_laws.specs.declared.event.Moment.{Moment}
-use Rattle.blocking_laws.specs.declared.step.Step.{Step}
+use Rattle.blocking_world_laws.specs.declared.event.Event.{Event}
+use Rattle.blocking_world_laws.specs.declared.event.Moment.{Moment}
+use Rattle.blocking_world_laws.specs.declared.step.Step.{Step}
 use Rattle.blk_commands.specs.Plays.{IsLegal, PlaysInstruction, PlaysInstructions, Repeats, ShowsScript, Takes, after, ending_of, has_next, new_history, shown_text, step_of}
 use Rattle.blk_commands.specs.declared.instruction.Actor.{Actor}
 use Rattle.blk_commands.specs.declared.instruction.Instruction.{Instruction}

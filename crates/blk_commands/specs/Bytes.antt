@@ -4,7 +4,7 @@ use Rattle.std.specs.Char.{is_ascii_uppercase}
 use Rattle.std.specs.List.{list_all}
 use Rattle.std.specs.Result.{result_ok}
 use Rattle.hex.specs.Hex.{IsBytes, decode_of}
-use Rattle.blocking_laws.specs.Hex.{hex_text}
+use Rattle.blocking_world_laws.specs.Hex.{hex_text}
 
 -- whether a word may be digits of bytes: it isn't empty, and no letter is a capital
 abbrev pub may_be_digits : List ℕ → Bool

@@ -2,17 +2,17 @@
 use Rattle.std.specs.Prelude.{◌≡◌, ℕ, ◌<◌, Bool, true, false, List, [], ◌∷◌, ◌++◌, length, map, reverse, take, codes, decimal, Option, Some, None}
 use Rattle.std.specs.List.{All, flat_map}
 use Rattle.blocking_pool.specs.Limits.{limit_of_setting}
-use Rattle.blocking_laws.specs.Counts.{idle, workers}
-use Rattle.blocking_laws.specs.Growth.{known_limit}
-use Rattle.blocking_laws.specs.Legal.{Legal}
-use Rattle.blocking_laws.specs.Queue.{queue}
+use Rattle.blocking_world_laws.specs.Counts.{idle, workers}
+use Rattle.blocking_world_laws.specs.Growth.{known_limit}
+use Rattle.blocking_world_laws.specs.Legal.{Legal}
+use Rattle.blocking_world_laws.specs.Queue.{queue}
 use Rattle.blocking_world.specs.Runs.{Follow, History, is_poll_under_way}
-use Rattle.blocking_laws.specs.Steps.{has_action}
-use Rattle.blocking_laws.specs.Texts.{event_text}
-use Rattle.blocking_laws.specs.declared.event.Event.{Event}
-use Rattle.blocking_laws.specs.declared.event.Moment.{Moment}
-use Rattle.blocking_laws.specs.declared.step.Step.{Step}
-use Rattle.blocking_laws.specs.declared.step.Step.TheVariants.{Job, Own}
+use Rattle.blocking_world_laws.specs.Steps.{has_action}
+use Rattle.blocking_world_laws.specs.Texts.{event_text}
+use Rattle.blocking_world_laws.specs.declared.event.Event.{Event}
+use Rattle.blocking_world_laws.specs.declared.event.Moment.{Moment}
+use Rattle.blocking_world_laws.specs.declared.step.Step.{Step}
+use Rattle.blocking_world_laws.specs.declared.step.Step.TheVariants.{Job, Own}
 use Rattle.blk_commands.specs.declared.instruction.Actor.{Actor}
 use Rattle.blk_commands.specs.declared.instruction.Actor.TheVariants.{JobOf, PollOf}
 use Rattle.blk_commands.specs.declared.instruction.Instruction.{Instruction}

@@ -4,7 +4,7 @@ ghost use Rattle.std.specs.Char.{is_ascii_uppercase};
 ghost use Rattle.std.specs.List.{list_all};
 ghost use Rattle.blk_commands.specs.Bytes.{SaysBytes, bytes_of};
 
-use blocking_laws::bytes::Bytes;
+use blocking_world_laws::bytes::Bytes;
 use hex::FromHexError;
 use std::alloc::{AllocError, Global};
 

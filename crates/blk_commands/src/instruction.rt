@@ -5,7 +5,7 @@ ghost use Rattle.blk_commands.specs.Instructions.{actor_named, answer_of, client
 use crate::bytes::bytes_of;
 use crate::number::{count, number, small_number};
 use crate::position::position_of;
-use blocking_laws::HandleCall;
+use blocking_world_laws::HandleCall;
 use blocking_world::{Answer, Step, TaskCall};
 use std::alloc::{AllocError, Global};
 

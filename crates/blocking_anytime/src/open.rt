@@ -8,7 +8,7 @@ use crate::close::unclosed;
 use blocking_core::pool::{Carries, Job, Refusal};
 use blocking_executor::{Executor, Runtime};
 use blocking_io::{AsyncRead, AsyncSeek, AsyncWrite, IoFault};
-use blocking_jobs::{ItemJob, ReadJob, SeekJob, WriteJob};
+use blocking_unblock_jobs::{ItemJob, ReadJob, SeekJob, WriteJob};
 use blocking_unblock::{IntoInner, Unblock};
 use futures::Stream;
 use futures::task::{Context, Poll};
@@ -317,7 +317,7 @@ impl<T: Seek + Drop, I: Drop, J: Job + Carries<SeekJob<T, H>>, H: Runtime> Async
     for Open<T, I, J, H> {
     ghost use Rattle.blocking_core.specs.declared.unblock.PollCall.TheVariants.{Seek as SeekCall};
     ghost use Rattle.blocking_unblock.specs.Owners.{Follows, KeepsRefused, reply_of_seek};
-    ghost use Rattle.blocking_jobs.specs.Seekers.{position_of};
+    ghost use Rattle.blocking_unblock_jobs.specs.Seekers.{position_of};
 
     ghost closed = { λ _. ⊥ };
 

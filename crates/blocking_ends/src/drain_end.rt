@@ -7,7 +7,7 @@ use crate::hand::Hand;
 use crate::locked::{JobToOwner, OfReceived, Tally};
 use crate::rule::PlaceRule;
 use blocking_core::pipe::{Answered, CopyStore, Drained, Fetched, Loan, PipeEnd, Store};
-use blocking_lock::{OwnerWaker, enter_where};
+use blocking_sync::{OwnerWaker, enter_where};
 use blocking_pool::pool::WakeNote;
 use futures::task::{Context, Poll, Source};
 use std::sync::{Arc, Mutex, MutexGuard, Wait};

@@ -4,7 +4,7 @@ ghost use Rattle.std.specs.Prelude.{◌≡◌, ◌<◌, ◌≤◌, ◌+◌, ◌^
 use crate::locked::{JobToOwner, OwnerToJob};
 use crate::rule::PlaceRule;
 use blocking_core::pipe::{Answered, CopyStore, Fetched, Peeked};
-use blocking_lock::OwnerWaker;
+use blocking_sync::OwnerWaker;
 use blocking_pool::pool::JobNo;
 use std::marker::{Model, PhantomData};
 

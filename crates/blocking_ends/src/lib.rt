@@ -12,7 +12,7 @@ mod ring;
 mod rule;
 mod send_end;
 
-pub use blocking_lock::OwnerWaker;
+pub use blocking_sync::OwnerWaker;
 pub use drain_end::DrainEnd;
 pub use fill_end::FillEnd;
 pub use locked::Closed;

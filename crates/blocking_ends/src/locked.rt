@@ -10,7 +10,7 @@ use blocking_core::pipe::{
     Answered, CopyStore, Drained, Fetched, Filled, Loan, Peeked, Pipe, PipeEnd, Put, Received,
     Room, Sending, Space, Store,
 };
-use blocking_lock::OwnerWaker;
+use blocking_sync::OwnerWaker;
 use blocking_pool::pool::{JobNo, WakeNote};
 use std::marker::{Model, PhantomData};
 pub use tally::Closed;
@@ -29,7 +29,7 @@ impl<X: Drop, R: PlaceRule<X>, S: Store<X>> Model for JobToOwner<X, R, S> {
     ghost use Rattle.std.specs.Prelude.{Option};
     ghost use Rattle.blocking_core.specs.Pipes.{Pipe as Seen, pipe_code};
     ghost use Rattle.blocking_ends.specs.Counted.{Counted, IsKept, counted_code};
-    ghost use Rattle.blocking_lock.specs.Slots.{waker_code};
+    ghost use Rattle.blocking_sync.specs.Slots.{waker_code};
     ghost use Rattle.futures.specs.declared.task.waker.Waker.{Waker};
 
     ghost Value = { Counted (Seen X (Option Waker)) };
@@ -344,7 +344,7 @@ impl<X: Drop, R: PlaceRule<X>, S: Store<X>> Model for OwnerToJob<X, R, S> {
     ghost use Rattle.std.specs.Prelude.{◌+◌, Option};
     ghost use Rattle.blocking_core.specs.Pipes.{Pipe as Seen, pipe_code};
     ghost use Rattle.blocking_ends.specs.Counted.{Counted, IsKept, counted_code};
-    ghost use Rattle.blocking_lock.specs.Slots.{waker_code};
+    ghost use Rattle.blocking_sync.specs.Slots.{waker_code};
     ghost use Rattle.futures.specs.declared.task.waker.Waker.{Waker};
 
     ghost Value = { Counted (Seen X (Option Waker)) };

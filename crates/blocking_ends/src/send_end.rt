@@ -4,7 +4,7 @@ ghost use Rattle.std.specs.Prelude.{◌≡◌, ◌<◌, ◌≤◌, ◌+◌, ◌-
 use crate::locked::{Closed, JobToOwner, OfSent, Tally};
 use crate::rule::PlaceRule;
 use blocking_core::pipe::{CopyStore, Put, Room, Sending, Space, Store};
-use blocking_lock::{OwnerWaker, enter_where};
+use blocking_sync::{OwnerWaker, enter_where};
 use blocking_pool::pool::JobNo;
 use std::sync::{Arc, Mutex, MutexGuard, Wait};
 

@@ -183,7 +183,7 @@ impl<J: Job, H: Runtime> Executor<J, H> {
 
     // Begins a section: takes the pool's lock, which is tried for a while before a thread sleeps for it.
     fn enter(&self) -> MutexGuard<'_, Held<J>> {
-        blocking_lock::enter(&self.shared.held, &self.rt)
+        blocking_sync::enter(&self.shared.held, &self.rt)
     }
 
     // Ends a section: lets the lock go, and notifies whom the section rang. A worker that looks for a job stands in for the one

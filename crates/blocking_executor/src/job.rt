@@ -6,7 +6,7 @@ use crate::slot::CallShare;
 use blocking_core::job::{Action, Answer, CallCore};
 use blocking_core::pool::{Carries, Job, JobNo, JobStep, Refused};
 use blocking_core::task::{Call, Put};
-use blocking_lock::OwnerWaker;
+use blocking_sync::OwnerWaker;
 use std::marker::Model;
 use std::mem;
 use std::sync::{Arc, Wait};

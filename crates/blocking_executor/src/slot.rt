@@ -1,7 +1,7 @@
 //! What the owner of a call and its job share: the slot of the call under its lock, and the mark of a call that is given up.
 //! What stands in the slot is a value that the call may give.
 use blocking_core::task::{Call, Looked, Put, Slotted};
-use blocking_lock::{KeptAnswer, Left, LockedSlot, OwnerWaker};
+use blocking_sync::{KeptAnswer, Left, LockedSlot, OwnerWaker};
 use std::marker::PhantomData;
 use std::sync::Wait;
 use std::sync::atomic::{AtomicBool, Ordering};
@@ -26,7 +26,7 @@ pub(crate) struct CallShare<F: Call<Out: Drop>> {
 }
 
 impl<F: Call<Out: Drop>> CallShare<F> {
-    ghost use Rattle.blocking_lock.specs.Slots.{IfLookedAt, IfPolled};
+    ghost use Rattle.blocking_sync.specs.Slots.{IfLookedAt, IfPolled};
 
     pub(crate) fn new() -> CallShare<F> {
         CallShare {

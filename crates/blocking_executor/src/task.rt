@@ -8,7 +8,7 @@ use crate::runtime::Runtime;
 use crate::slot::{AnswerOf, CallShare};
 use blocking_core::pool::{Carries, Job, Refusal, Refused};
 use blocking_core::task::{Call, Looked, OfSlot, Over, Seat, Slotted};
-use blocking_lock::KeptAnswer;
+use blocking_sync::KeptAnswer;
 use futures::Future;
 use futures::task::{Context, Poll, Source, Waker};
 use std::sync::{Arc, Wait};

@@ -15,7 +15,7 @@ use blocking_core::io::Position;
 use blocking_core::pool::{Carries, Job, Refusal, Refused};
 use blocking_core::task::{CallOn, OfSlot, Seat};
 use blocking_executor::{Added, Executor, Runtime};
-use blocking_jobs::{
+use blocking_unblock_jobs::{
     ItemJob, OpJob, ReadJob, ResultPlace, ResultSeat, SeekJob, WriteJob, new_share,
 };
 use futures::task::Context;

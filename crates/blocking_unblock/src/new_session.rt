@@ -8,7 +8,7 @@ use crate::spare::Spare;
 use blocking_ends::{
     AnyPlace, ItemSendEnd, PeekEnd, SendEnd, link_drain, link_in_over, link_items,
 };
-use blocking_jobs::{MayFail, ReadBack, SessionShare, SessionStore, WriteBack, new_share};
+use blocking_unblock_jobs::{MayFail, ReadBack, SessionShare, SessionStore, WriteBack, new_share};
 use std::alloc::{AllocError, AllocGlobal};
 use std::sync::{Arc, Wait};
 

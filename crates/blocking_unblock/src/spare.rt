@@ -6,7 +6,7 @@ use blocking_core::pipe::{LendingMemory, Store};
 use blocking_ends::{
     AnyPlace, DrainEnd, FillEnd, PeekEnd, PieceMemory, SendEnd, unlink_drain, unlink_in,
 };
-use blocking_jobs::SessionStore;
+use blocking_unblock_jobs::SessionStore;
 use std::alloc::{AllocError, Global};
 use std::sync::Wait;
 

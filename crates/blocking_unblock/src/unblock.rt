@@ -2,7 +2,7 @@
 ghost use Rattle.std.specs.Prelude.{◌≡◌, ◌⊎◌, ◌+◌, ◌<◌, ◌≤◌, ◌↔◌, true, false, length, None, Some, IfOk, IfErr, IfSome};
 ghost use Rattle.futures.specs.Poll.{IfReady, OnPending};
 ghost use Rattle.futures.specs.Task.{IsArmed, Keeps};
-ghost use Rattle.blocking_jobs.specs.Seekers.{position_of};
+ghost use Rattle.blocking_unblock_jobs.specs.Seekers.{position_of};
 ghost use Rattle.blocking_unblock.specs.Owners.{IsHeld};
 
 use crate::lend::{Capacity, Lends, ToNobody, ToOperate, ToRead, ToSeek, ToStream, ToWrite};
@@ -18,7 +18,7 @@ use blocking_core::task::CallOn;
 use blocking_core::unblock::{OwnerAction, OwnerAnswer, OwnerCall, PollCall, Reply};
 use blocking_executor::{Executor, Runtime};
 use blocking_io::{AsyncRead, AsyncSeek, AsyncWrite, IoFault};
-use blocking_jobs::{ItemJob, OpJob, ReadJob, SeekJob, WriteJob};
+use blocking_unblock_jobs::{ItemJob, OpJob, ReadJob, SeekJob, WriteJob};
 use futures::Stream;
 use futures::task::{Context, Poll};
 use std::fmt::{Debug, Formatter};
@@ -752,7 +752,7 @@ impl<T: Seek + Drop, I: Drop, J: Job + Carries<SeekJob<T, H>>, H: Runtime> Async
     for Unblock<T, I, J, H> {
     ghost use Rattle.blocking_core.specs.declared.unblock.PollCall.TheVariants.{Seek as SeekCall};
     ghost use Rattle.blocking_unblock.specs.Owners.{IsClosed, Follows, KeepsRefused, reply_of_seek};
-    ghost use Rattle.blocking_jobs.specs.Seekers.{position_of};
+    ghost use Rattle.blocking_unblock_jobs.specs.Seekers.{position_of};
 
     ghost closed = { λ owner. IsClosed owner.place };
 

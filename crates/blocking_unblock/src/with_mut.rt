@@ -11,7 +11,7 @@ use blocking_core::pool::{Carries, Job, Refused};
 use blocking_core::task::CallOn;
 use blocking_core::unblock::{PollCall, Reply};
 use blocking_executor::Runtime;
-use blocking_jobs::OpJob;
+use blocking_unblock_jobs::OpJob;
 use futures::Future;
 use futures::task::{Context, Poll};
 use std::mem;

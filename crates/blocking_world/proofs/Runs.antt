@@ -1,16 +1,16 @@
 -- A run: what it has added to a world so far.
 use Rattle.std.proofs.Common.{◌≡◌, ◌<◌, ◌+◌, ℕ, Bool, List, [], ◌∷◌, ◌++◌, length, map, take, drop, ap, sym, ◌∙◌, arith}
 use Rattle.std.proofs.lemmas.List.{map-append, reverse-append, length-map, length-take-le, take-append-drop}
-use Rattle.blocking_laws.specs.declared.event.Event.{Event}
-use Rattle.blocking_laws.specs.declared.event.Moment.{Moment}
-use Rattle.blocking_laws.specs.declared.step.Step.{Step}
-use Rattle.blocking_laws.specs.Behind.{AllWriteBehind}
-use Rattle.blocking_laws.specs.Queue.{NeverLimited, entries, queue, takes}
-use Rattle.blocking_laws.specs.Seen.{IsBeginning}
-use Rattle.blocking_laws.proofs.Queues.{unlimited_so}
-use Rattle.blocking_laws.proofs.WrittenBytes.{all_write_behind}
-use Rattle.blocking_copiers.specs.Assemblies.{Assembled}
-use Rattle.blocking_copiers.specs.Ties.{IsLawful}
+use Rattle.blocking_world_laws.specs.declared.event.Event.{Event}
+use Rattle.blocking_world_laws.specs.declared.event.Moment.{Moment}
+use Rattle.blocking_world_laws.specs.declared.step.Step.{Step}
+use Rattle.blocking_world_laws.specs.Behind.{AllWriteBehind}
+use Rattle.blocking_world_laws.specs.Queue.{NeverLimited, entries, queue, takes}
+use Rattle.blocking_world_laws.specs.Seen.{IsBeginning}
+use Rattle.blocking_world_laws.proofs.Queues.{unlimited_so}
+use Rattle.blocking_world_laws.proofs.WrittenBytes.{all_write_behind}
+use Rattle.blocking_world_copiers.specs.Assemblies.{Assembled}
+use Rattle.blocking_world_copiers.specs.Ties.{IsLawful}
 use Rattle.blocking_world.specs.Runs.{History, Follow, StopsShort}
 
 -- so many of the steps were taken, with these events

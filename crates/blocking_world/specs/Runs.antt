@@ -1,10 +1,10 @@
 -- What contracts see of a world, and what a run adds to it.
 use Rattle.std.specs.Prelude.{◌≡◌, ◌<◌, ℕ, Bool, not, List, ◌++◌, length, map, reverse}
-use Rattle.blocking_laws.specs.Seen.{acts_of_owner, events}
-use Rattle.blocking_laws.specs.Sessions.{is_poll_over, under_way}
-use Rattle.blocking_laws.specs.declared.event.Event.{Event}
-use Rattle.blocking_laws.specs.declared.event.Moment.{Moment}
-use Rattle.blocking_laws.specs.declared.step.Step.{Step}
+use Rattle.blocking_world_laws.specs.Seen.{acts_of_owner, events}
+use Rattle.blocking_world_laws.specs.Sessions.{is_poll_over, under_way}
+use Rattle.blocking_world_laws.specs.declared.event.Event.{Event}
+use Rattle.blocking_world_laws.specs.declared.event.Moment.{Moment}
+use Rattle.blocking_world_laws.specs.declared.step.Step.{Step}
 
 -- the history of a world: the number of its setting, the plan of its starts, and what was seen so far, the newest first
 pub record History : Type 0 where

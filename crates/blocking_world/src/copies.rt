@@ -1,10 +1,10 @@
 //! Copies of events, into room that was taken before.
 ghost use Rattle.std.specs.Prelude.{◌≡◌, ◌≤◌, [], length, vec_capacity};
-ghost use Rattle.blocking_parts.specs.Carried.{bytes_of};
+ghost use Rattle.blocking_world_state.specs.Carried.{bytes_of};
 
-use blocking_laws::bytes::Bytes;
-use blocking_laws::event::{Act, Event};
-use blocking_laws::step::{Answer, HandleCall};
+use blocking_world_laws::bytes::Bytes;
+use blocking_world_laws::event::{Act, Event};
+use blocking_world_laws::step::{Answer, HandleCall};
 
 /// The same event once more, its bytes in this room, which is empty and large enough for them. Takes no memory.
 pub(crate) fn twin_in(event: &Event, room: Vec<u8>) -> Event

@@ -1,8 +1,8 @@
 //! What is seen of one owner alone.
 ghost use Rattle.std.specs.Prelude.{◌≡◌, List, cond, [], ◌∷◌, ◌++◌, IfOk};
-ghost use Rattle.blocking_laws.specs.Seen.{cut, is_in_cut, is_nothing, is_of_pool, is_owner, is_some_worker, is_this};
+ghost use Rattle.blocking_world_laws.specs.Seen.{cut, is_in_cut, is_nothing, is_of_pool, is_owner, is_some_worker, is_this};
 
-use blocking_laws::{Act, Event, Party};
+use blocking_world_laws::{Act, Event, Party};
 use std::alloc::{AllocError, Global};
 
 /// The events of this owner, by its number from 0, and of its jobs, in the order in which they are given. Those that the pool alone

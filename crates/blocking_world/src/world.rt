@@ -1,23 +1,23 @@
 //! A world that keeps what was seen of it.
 ghost use Rattle.std.specs.Prelude.{◌≡◌, ◌<◌, ◌∷◌, [], length, true, IfOk, OnErr};
 ghost use Rattle.blocking_pool.specs.Limits.{limit_of_setting};
-ghost use Rattle.blocking_laws.specs.Counts.{workers, idle};
-ghost use Rattle.blocking_laws.specs.Growth.{IsPlanned, known_limit};
-ghost use Rattle.blocking_laws.specs.Behind.{AllWriteBehind};
-ghost use Rattle.blocking_laws.specs.Legal.{Legal};
-ghost use Rattle.blocking_laws.specs.Queue.{NeverLimited, entries, queue, takes};
-ghost use Rattle.blocking_laws.specs.Seen.{IsBeginning};
-ghost use Rattle.blocking_copiers.specs.Assemblies.{Does};
+ghost use Rattle.blocking_world_laws.specs.Counts.{workers, idle};
+ghost use Rattle.blocking_world_laws.specs.Growth.{IsPlanned, known_limit};
+ghost use Rattle.blocking_world_laws.specs.Behind.{AllWriteBehind};
+ghost use Rattle.blocking_world_laws.specs.Legal.{Legal};
+ghost use Rattle.blocking_world_laws.specs.Queue.{NeverLimited, entries, queue, takes};
+ghost use Rattle.blocking_world_laws.specs.Seen.{IsBeginning};
+ghost use Rattle.blocking_world_copiers.specs.Assemblies.{Does};
 ghost use Rattle.blocking_world.specs.Runs.{Adds, StopsShort};
-ghost use Rattle.blocking_laws.specs.Served.{IsServed};
-ghost use Rattle.blocking_laws.specs.Solo.{AreIndependent};
-ghost use Rattle.blocking_laws.specs.Staffed.{IsStaffed, AreAsSeen};
+ghost use Rattle.blocking_world_laws.specs.Served.{IsServed};
+ghost use Rattle.blocking_world_laws.specs.Solo.{AreIndependent};
+ghost use Rattle.blocking_world_laws.specs.Staffed.{IsStaffed, AreAsSeen};
 
 use crate::copies::twin_in;
-use blocking_copiers::Assembly;
-use blocking_crew::{NoStarts, PlannedStarts};
-use blocking_laws::event::{Event, Moment};
-use blocking_laws::step::Step;
+use blocking_world_copiers::Assembly;
+use blocking_world_pool::{NoStarts, PlannedStarts};
+use blocking_world_laws::event::{Event, Moment};
+use blocking_world_laws::step::Step;
 use std::alloc::{AllocError, Global};
 use std::marker::{Brand, Model};
 use std::sync::ledger::{Blank, Ledger};
@@ -35,9 +35,9 @@ pub struct World {
 
 impl Model for World {
     ghost use Rattle.std.specs.Prelude.{reverse};
-    ghost use Rattle.blocking_crew.specs.Crews.{free_hands, busy_hands};
+    ghost use Rattle.blocking_world_pool.specs.Crews.{free_hands, busy_hands};
     ghost use Rattle.blocking_world.specs.Runs.{WorldValue};
-    ghost use Rattle.blocking_copiers.specs.Ties.{IsLawful};
+    ghost use Rattle.blocking_world_copiers.specs.Ties.{IsLawful};
 
     ghost Value = { WorldValue };
 
@@ -57,8 +57,8 @@ impl Model for World {
 
 impl World {
     ghost use Rattle.std.specs.Prelude.{option_map};
-    ghost use Rattle.blocking_laws.specs.Steps.{has_action};
-    ghost use Rattle.blocking_laws.specs.declared.step.Step.TheVariants as step;
+    ghost use Rattle.blocking_world_laws.specs.Steps.{has_action};
+    ghost use Rattle.blocking_world_laws.specs.declared.step.Step.TheVariants as step;
     ghost use Rattle.blocking_world.specs.Runs.{is_poll_under_way};
 
     /// A world in which nothing has happened. The setting is the text of a limit, and the plan says which starts of
@@ -187,7 +187,7 @@ fn close_with<L: Ledger>(assembly: Assembly, blank: Blank)
 ///
 /// Err where there was no room for the world's own lists: the world is then where the steps so far left it. The room for a
 /// step and its event is taken before the step acts.
-#[tactic(auto, using(blocking_copiers::proofs::Readings::served_now, blocking_copiers::proofs::Readings::staffed_now, blocking_copiers::proofs::Readings::held_now, crate::proofs::Runs::behind_now, crate::proofs::Runs::unlimited_now))]
+#[tactic(auto, using(blocking_world_copiers::proofs::Readings::served_now, blocking_world_copiers::proofs::Readings::staffed_now, blocking_world_copiers::proofs::Readings::held_now, crate::proofs::Runs::behind_now, crate::proofs::Runs::unlimited_now))]
 pub fn run(alloc: Global, world: &mut World, steps: &[Step]) -> Result<Vec<Event>, AllocError>
     ensures ok { IfOk result
         (λ events. Adds steps.now events.items world.old.history world.new.history) }

@@ -1,4 +1,4 @@
-//! Tests of `blocking_laws`, `blocking_crew` and `blocking_world`: rows of steps, with what is seen of each, and what a script can't show
+//! Tests of `blocking_world_laws`, `blocking_world_pool` and `blocking_world`: rows of steps, with what is seen of each, and what a script can't show
 //! (the rest stands in `blk`'s stored runs).
 //!
 //! They stand in a crate of their own, since a crate that has tests is proved a second time with them.

@@ -7,10 +7,10 @@ use crate::row::PlainStep::{
 use crate::row::{Place, PlainStep, agree, counts, sees};
 use blocking_core::io::Position;
 use blocking_core::pool::Refusal;
-use blocking_laws::bytes::Bytes;
-use blocking_laws::event::{Act, Event, Party};
-use blocking_laws::step::TaskCall::Poll;
-use blocking_laws::step::{Answer, Step};
+use blocking_world_laws::bytes::Bytes;
+use blocking_world_laws::event::{Act, Event, Party};
+use blocking_world_laws::step::TaskCall::Poll;
+use blocking_world_laws::step::{Answer, Step};
 use blocking_world::{World, cut, run};
 use std::alloc::{AllocError, Global};
 use std::fmt::Write;

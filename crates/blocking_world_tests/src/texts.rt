@@ -2,9 +2,9 @@
 use crate::row::{Place, agree};
 use blocking_core::io::{Fault, Position};
 use blocking_core::pool::{Refusal, Standing, Woke};
-use blocking_laws::bytes::Bytes;
-use blocking_laws::event::{Act, CopySide, Event, HolderWaker, Party, Reply, WaitEnd};
-use blocking_laws::step::{Answer, HandleCall};
+use blocking_world_laws::bytes::Bytes;
+use blocking_world_laws::event::{Act, CopySide, Event, HolderWaker, Party, Reply, WaitEnd};
+use blocking_world_laws::step::{Answer, HandleCall};
 use std::alloc::{AllocError, Global};
 use std::test::Fail;
 

@@ -57,7 +57,7 @@ fn more<H: Host + Files<File = File> + Env>(rt: H) -> Result<()> {
     println!(rt; "12 squared is {square}; 12 is even: {is_even}")?;
     let serial = own_job::woken(rt)?;
     println!(rt; "job {serial} waited, and was woken")?;
-    let count = own_rule::received(rt)?;
+    let count = examples_own_rule::received(rt)?;
     println!(rt; "{count} numbers came in order")?;
     lines::show_file(rt)?;
     records::show_records(rt)?;

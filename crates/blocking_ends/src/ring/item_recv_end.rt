@@ -9,7 +9,7 @@ use super::pace::{Pace, pause};
 use super::shared::{Asked, NotEnded, OwnerSeat, Shared};
 use crate::rule::PlaceRule;
 use blocking_core::pipe::Received;
-use blocking_lock::OwnerWaker;
+use blocking_sync::OwnerWaker;
 use blocking_pool::pool::WakeNote;
 use futures::task::{Context, Poll, Source};
 use rtrb::Consumer;

@@ -7,7 +7,7 @@ use super::kept::{JobSeated, ToldEnd};
 use super::pace::{Pace, pause};
 use super::shared::{Again, SeenShut, Shared};
 use crate::rule::PlaceRule;
-use blocking_lock::OwnerWaker;
+use blocking_sync::OwnerWaker;
 use blocking_pool::pool::JobNo;
 use rtrb::Producer;
 use std::alloc::Global;

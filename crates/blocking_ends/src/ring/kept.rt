@@ -4,7 +4,7 @@ ghost use Rattle.std.specs.Prelude.{◌≡◌, None, Some, IfSome};
 use crate::rule::PlaceRule;
 use blocking_core::pipe::{OfItemRing, Seats};
 use blocking_core::task::Seat;
-use blocking_lock::OwnerWaker;
+use blocking_sync::OwnerWaker;
 use blocking_pool::pool::{JobNo, WakeNote};
 use std::marker::{Model, PhantomData};
 
@@ -52,7 +52,7 @@ pub(super) struct Kept<X: Drop, R: PlaceRule<X>> {
 impl<X: Drop, R: PlaceRule<X>> Model for Kept<X, R> {
     ghost use Rattle.std.specs.Prelude.{Option, IfSome};
     ghost use Rattle.blocking_ends.specs.Rings.{Kept as Seen, kept_code};
-    ghost use Rattle.blocking_lock.specs.Slots.{waker_code};
+    ghost use Rattle.blocking_sync.specs.Slots.{waker_code};
     ghost use Rattle.futures.specs.declared.task.waker.Waker.{Waker};
 
     ghost Value = { Seen (Option Waker) };

@@ -7,7 +7,7 @@ use super::kept::{JobSeat, JobSeated, Kept, SeenEnd, Told, ToldEnd};
 use crate::rule::PlaceRule;
 use blocking_core::pipe::{OfItemRing, OfPipe};
 use blocking_core::task::Seat;
-use blocking_lock::{OwnerWaker, enter};
+use blocking_sync::{OwnerWaker, enter};
 use blocking_pool::pool::{JobNo, WakeNote};
 use rtrb::Producer;
 use std::alloc::Global;

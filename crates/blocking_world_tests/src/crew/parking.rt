@@ -5,7 +5,7 @@ use crate::crew::row::Step::{
     Add, Arrive, Detach, End, On, Park, SetLimit, Sweep, Take, Wait, Work,
 };
 use crate::crew::row::{Row, play};
-use blocking_laws::event::WaitEnd::{TimedOut, Woken};
+use blocking_world_laws::event::WaitEnd::{TimedOut, Woken};
 use std::test::Fail;
 
 const AT_LIMIT_1: Row = Row {

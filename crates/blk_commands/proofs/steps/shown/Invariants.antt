@@ -1,7 +1,7 @@
 -- So far the text has a line for each event.
 use Rattle.std.proofs.Common.{◌≡◌, string_bytes, take}
 use Rattle.std.specs.List.{flat_map}
-use Rattle.blocking_laws.specs.Texts.{event_text}
+use Rattle.blocking_world_laws.specs.Texts.{event_text}
 use Rattle.blk_commands.specs.Plays.{line_of}
 use Rattle.blk_commands.proofs.steps.shown.Given as goal
 

@@ -1,7 +1,7 @@
 -- Each owner is alone in its cut, since what was seen is legal.
 use Rattle.std.proofs.Common.{reverse, subst}
-use Rattle.blocking_laws.proofs.Filters.{independent}
-use Rattle.blocking_laws.specs.Solo.{AreIndependent}
+use Rattle.blocking_world_laws.proofs.Filters.{independent}
+use Rattle.blocking_world_laws.specs.Solo.{AreIndependent}
 use Rattle.blocking_world.specs.Runs.{WorldValue}
 use Rattle.blocking_world.proofs.world.run.Goals as goal
 

@@ -1,6 +1,6 @@
 use Rattle.std.proofs.Common.{IfOk, subst}
-use Rattle.blocking_laws.specs.Growth.{IsPlanned}
-use Rattle.blocking_copiers.specs.Assemblies.{Does}
+use Rattle.blocking_world_laws.specs.Growth.{IsPlanned}
+use Rattle.blocking_world_copiers.specs.Assemblies.{Does}
 use Rattle.blocking_world.proofs.world.step_with.Goals as goal
 
 pub returns-clause-ok : goal.returns-clause-ok

@@ -2,8 +2,8 @@ use Rattle.std.proofs.Common.{rules, ◌≡◌, ◌+◌, ◌++◌, ◌∷◌, []
 use Rattle.std.proofs.lemmas.List.{take_more, length-append}
 use Rattle.std.proofs.lemmas.Result.{err_from_is_err_and}
 use Rattle.blocking_world.specs.Runs.{StopsShort}
-use Rattle.blocking_laws.specs.declared.event.Event.{Event}
-use Rattle.blocking_laws.specs.declared.step.Step.{Step}
+use Rattle.blocking_world_laws.specs.declared.event.Event.{Event}
+use Rattle.blocking_world_laws.specs.declared.step.Step.{Step}
 use Rattle.blocking_world.proofs.Runs.{Taken, taken_more, taken_fewer}
 use Rattle.blocking_world.proofs.world.take_all.Goals as goal
 

@@ -1,7 +1,7 @@
 use Rattle.std.proofs.Common.{◌∙◌, ap, reverse, sym}
-use Rattle.blocking_laws.specs.Steps.{is_job_action}
-use Rattle.blocking_parts.specs.Parts.{Parts, next_at}
-use Rattle.blocking_copiers.proofs.Readings.{acts_is}
+use Rattle.blocking_world_laws.specs.Steps.{is_job_action}
+use Rattle.blocking_world_state.specs.Parts.{Parts, next_at}
+use Rattle.blocking_world_copiers.proofs.Readings.{acts_is}
 use Rattle.blocking_world.proofs.world.World.has_job_action.Goals as goal
 
 -- what the parts answer is what the laws say of the step

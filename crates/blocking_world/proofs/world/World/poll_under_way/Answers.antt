@@ -1,7 +1,7 @@
 use Rattle.std.proofs.Common.{◌∙◌, ap, reverse, slice_get, sym}
-use Rattle.blocking_parts.specs.Carried.{polls_in}
-use Rattle.blocking_parts.specs.Parts.{Parts}
-use Rattle.blocking_copiers.proofs.Readings.{polls_is}
+use Rattle.blocking_world_state.specs.Carried.{polls_in}
+use Rattle.blocking_world_state.specs.Parts.{Parts}
+use Rattle.blocking_world_copiers.proofs.Readings.{polls_is}
 use Rattle.blocking_world.proofs.world.World.poll_under_way.Goals as goal
 
 -- an owner is polled where it was seen to be

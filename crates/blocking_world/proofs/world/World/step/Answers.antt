@@ -1,14 +1,14 @@
 use Rattle.std.proofs.Common.{Result, is_ok, true, List, if◌then◌else◌, arith, ◌≡◌, ◌≤◌, ◌∷◌, [], ◌++◌, length, reverse, ap, sym, subst, ◌∙◌}
 use Rattle.std.proofs.lemmas.List.{reverse-append}
-use Rattle.blocking_laws.specs.Growth.{IsPlanned}
-use Rattle.blocking_laws.specs.declared.event.Event.{Event}
-use Rattle.blocking_laws.specs.declared.event.Moment.{Moment}
-use Rattle.blocking_laws.specs.declared.step.Step.{Step}
-use Rattle.blocking_parts.specs.Carried.{bytes_of}
-use Rattle.blocking_copiers.specs.Assemblies.{Does}
-use Rattle.blocking_copiers.specs.Ties.{IsLawful}
-use Rattle.blocking_copiers.proofs.Carried.{does_carry}
-use Rattle.blocking_copiers.proofs.Whole.{does_lawful, does_setting}
+use Rattle.blocking_world_laws.specs.Growth.{IsPlanned}
+use Rattle.blocking_world_laws.specs.declared.event.Event.{Event}
+use Rattle.blocking_world_laws.specs.declared.event.Moment.{Moment}
+use Rattle.blocking_world_laws.specs.declared.step.Step.{Step}
+use Rattle.blocking_world_state.specs.Carried.{bytes_of}
+use Rattle.blocking_world_copiers.specs.Assemblies.{Does}
+use Rattle.blocking_world_copiers.specs.Ties.{IsLawful}
+use Rattle.blocking_world_copiers.proofs.Carried.{does_carry}
+use Rattle.blocking_world_copiers.proofs.Whole.{does_lawful, does_setting}
 use Rattle.blocking_world.proofs.world.World.step.Goals as goal
 
 -- what fits stands at the end

@@ -1,6 +1,0 @@
-use Rattle.std.proofs.Common.{refl}
-use Rattle.blocking_crew.proofs.Words.{Tells}
-use Rattle.blocking_crew.proofs.crew.Crew.tell.Goals as goal
-
-pub returns : goal.returns
-returns c = record { move = Tells c.args.party c.args.act; may = c.requires; call_is = refl; event_is = cc (c.seen.ensures, c.next_start.ensures); after_is = refl }

@@ -1,6 +1,0 @@
--- An edit makes this false. With an answer of its own it is refused without a second search.
-use Rattle.std.proofs.Common.{rules}
-use Rattle.blocking_lanes.proofs.session.Session.consume.Goals as goal
-
-pub returns : goal.returns
-returns c = search rules

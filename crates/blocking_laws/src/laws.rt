@@ -1,6 +1,0 @@
-//! What is proved of the laws in this crate, each the contract of a function that does nothing. The machines cite [`whole`];
-//! [`readings`] refuses the wrong readings of a definition that edits try. All else that is proved of them stands in
-//! `blocking_theorems`.
-
-pub mod readings;
-pub mod whole;

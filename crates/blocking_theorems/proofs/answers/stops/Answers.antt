@@ -1,7 +1,0 @@
--- A worker stops over the limit, and jobs are taken in their order.
-use Rattle.std.proofs.Common.{rules}
-use Rattle.blocking_theorems.proofs.Orders.{legal_so}
-use Rattle.blocking_theorems.proofs.answers.stops.Goals as goal
-
-pub returns-clause-accepts_stop_over_limit : goal.returns-clause-accepts_stop_over_limit
-returns-clause-accepts_stop_over_limit c = legal_so (search rules)

@@ -1,6 +1,0 @@
--- Two events with one act have the same starts.
-use Rattle.blocking_theorems.proofs.Growths.{same_event}
-use Rattle.blocking_theorems.proofs.growth.one_growth.Goals as goal
-
-pub returns : goal.returns
-returns c = same_event

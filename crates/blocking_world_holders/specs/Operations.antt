@@ -1,0 +1,60 @@
+-- How far the job of an operation is, and how that hangs together with what it has done.
+use Rattle.std.specs.Prelude.{◌≡◌, ℕ, List, None}
+use Rattle.blocking_core.specs.Machines.{Machine}
+use Rattle.blocking_core.specs.Operations.{new_operation, operation_next, operation_after}
+use Rattle.blocking_core.specs.declared.job.operation.OpAction.{OpAction}
+use Rattle.blocking_core.specs.declared.job.operation.OpAction.TheVariants as operation
+use Rattle.blocking_core.specs.declared.job.operation.OpAnswer.{OpAnswer}
+use Rattle.blocking_core.specs.declared.job.operation.OpAnswer.TheVariants as by
+use Rattle.blocking_world_laws.specs.JobTable.{Operating, JobAction, AskResult, PutResult, Finish, WakeHolder, Over, next_but_wake, fault, number}
+use Rattle.blocking_world_laws.specs.declared.event.Act.{Act}
+use Rattle.blocking_world_laws.specs.declared.step.Answer.{Answer}
+use Rattle.blocking_world_laws.specs.declared.step.Answer.TheVariants.{Number}
+use Rattle.blocking_world_holders.specs.Reads.{has_waker}
+
+-- What the job of an operation does next, and the number that the operation gave, 0 before it did. It is in hand until it is put.
+pub record Progress : Type 0 where
+  pub core : Machine OpAction
+  pub number : ℕ
+
+-- a job that has done nothing yet
+abbrev pub not_begun : Progress
+not_begun = record { core = new_operation; number = 0 }
+
+-- ---- what comes next
+
+-- an action, in the words of the laws
+abbrev pub action_as : OpAction → JobAction
+action_as operation.Call = AskResult
+action_as operation.PutResult = PutResult
+action_as operation.Finish = Finish
+action_as operation.Deliver = WakeHolder
+action_as operation.Done = Over
+
+-- the next action of the job, in the words of the laws
+abbrev pub action_of : Progress → JobAction
+action_of job = action_as (operation_next job.core)
+
+-- ---- what it leaves
+
+-- the job after its action was answered so
+abbrev pub progress_with : Progress → OpAnswer → Progress
+progress_with job answer = record job { core = operation_after job.core answer }
+
+-- the operation gave this number
+abbrev pub progress_after_number : Progress → ℕ → Progress
+progress_after_number job n = record job { core = operation_after job.core by.Returned; number = n }
+
+-- the operation answered so
+abbrev pub progress_after_answer : Progress → Answer → Progress
+progress_after_answer job (Number n) = progress_after_number job n
+progress_after_answer job _ = job
+
+-- ---- what it has done
+
+-- A job that didn't give up, by what it has done so far. It meets no fault.
+pub record OperationAs (job : Progress) (acts : List Act) : Type 0 where
+  pub next : action_as job.core.next ≡ next_but_wake Operating acts
+  pub waking : job.core.is_waking ≡ has_waker acts
+  pub fault_is : fault Operating acts ≡ None
+  pub number_is : job.number ≡ number acts

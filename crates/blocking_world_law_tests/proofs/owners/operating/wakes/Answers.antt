@@ -1,0 +1,11 @@
+-- The first owner waits for the first job, and nothing woke either.
+use Rattle.std.proofs.Common.{◌≡◌, true, false, refl, inl, inr}
+use mathlib.Core.Logic.{◌⊎◌}
+use Rattle.blocking_world_law_tests.proofs.owners.operating.wakes.Goals as goal
+
+never : (false ≡ true) ⊎ (false ≡ true) → ⊥
+never (inl told) = cc
+never (inr told) = cc
+
+pub returns-clause-refuses_untold_owner : goal.returns-clause-refuses_untold_owner
+returns-clause-refuses_untold_owner c = λ law. never (law.owners 0 1 refl refl refl)
