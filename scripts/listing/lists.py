@@ -98,10 +98,11 @@ def sources(files):
     for path, text in files.items():
         if re.match(r"crates/\w+/src/.*\.rt$", path):
             module, parts = module_of(path), list(parts_of(text.splitlines()))
-            if module.split("::")[0].endswith("_tests"):
+            crate = module.split("::")[0]
+            if crate.endswith("_tests") and crate != "blocking_world_law_tests":
                 yield from (("tests", *test) for test in tests_of(module, parts))
             else:
-                of = "theorems" if module.startswith("blocking_world_law_tests") else "items"
+                of = "theorems" if crate == "blocking_world_law_tests" else "items"
                 yield from ((of, *item) for item in items_of(module, parts))
 
 

@@ -1,4 +1,4 @@
-//! What every lane keeps, apart from what its calls do. Bodies are empty.
+//! What every holder keeps, apart from what its calls do. Bodies are empty.
 ghost use Rattle.std.specs.Prelude.{◌≡◌, ◌⊎◌, ◌||◌, ◌++◌, ◌∷◌, ℕ, true, List, [], length, None};
 ghost use Rattle.blocking_pool.specs.Jobs.{JobNumber};
 ghost use Rattle.blocking_world_laws.specs.JobTable.{has_finished, has_given_up};

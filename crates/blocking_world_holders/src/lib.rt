@@ -1,7 +1,7 @@
-//! The lanes of a world. A task has the slot in which it meets the job of its call. An owner has the pipe, the place of a result
+//! The holders of a world. A task has the slot in which it meets the job of its call. An owner has the pipe, the place of a result
 //! and the slot in which it meets the job that works for it. Each says how far those jobs are.
 //!
-//! A lane knows no pool, no worker and no other lane. What was seen of it is its cut, and by its cut alone it keeps its laws.
+//! A holder knows no pool, no worker and no other holder. What was seen of it is its cut, and by its cut alone it keeps its laws.
 //! [`Task`] and [`Owner`] say what each act does, and [`kept`] that their laws hold after it.
 #![tactic(auto)]
 

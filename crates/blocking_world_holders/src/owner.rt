@@ -97,9 +97,9 @@ pub struct Owner {
 }
 
 impl Model for Owner {
-    ghost use Rattle.blocking_world_holders.specs.Owners.{Owner as Lane};
+    ghost use Rattle.blocking_world_holders.specs.Owners.{Owner as Holder};
 
-    ghost Value = { Lane };
+    ghost Value = { Holder };
 
     ghost view = { λ o. record { capacity = o.capacity; client = o.client; asked = o.asked; stage = o.stage; session = o.session } };
 }

@@ -32,9 +32,9 @@ pub struct Task {
 }
 
 impl Model for Task {
-    ghost use Rattle.blocking_world_holders.specs.Tasks.{Task as Lane};
+    ghost use Rattle.blocking_world_holders.specs.Tasks.{Task as Holder};
 
-    ghost Value = { Lane };
+    ghost Value = { Holder };
 
     ghost view = { λ t. record {
       number = t.number;

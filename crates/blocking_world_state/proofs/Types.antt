@@ -1,4 +1,4 @@
--- The types that parts, their crew and lanes, and the laws speak of, by their names.
+-- The types that parts, their crew and holders, and the laws speak of, by their names.
 pub use Rattle.blocking_core.specs.declared.io.Fault.{Fault}
 pub use Rattle.blocking_core.specs.declared.job.Action.{Action}
 pub use Rattle.blocking_core.specs.declared.job.item.ItemAction.{ItemAction}

@@ -4,6 +4,6 @@ pub mod PollActs
 pub mod Asides
 pub mod Steps
 pub mod Jobs
-pub mod Lanes
+pub mod Holders
 pub mod Bytes
 pub mod Seats

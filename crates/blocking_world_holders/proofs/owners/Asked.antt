@@ -1,4 +1,4 @@
--- When an owner may be asked, by the law and by the lane.
+-- When an owner may be asked, by the law and by the holder.
 use Rattle.std.proofs.Common.{arith, ◌≡◌, ◌&&◌, List, ◌∷◌, Bool, true, false, refl, ap, ◌∙◌, Some, ◌||◌, not}
 use Rattle.blocking_world_holders.proofs.Types.{Act, Asked, HandleCall, IntoInner}
 use Rattle.blocking_world_holders.proofs.Words.{seen_call as call, seen_is_into_inner as is_into_inner, is_operation, seen_is_pending_operation as is_pending_operation, seen_was_asked_inner as was_asked_inner, is_waiting}

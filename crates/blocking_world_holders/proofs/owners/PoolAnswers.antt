@@ -198,7 +198,7 @@ waits_so : (end : PollEnd) (at : State) (waits operates begun found : Bool) → 
 waits_so PollEnd.Replied at waits operates begun found ends = ends
 waits_so _ at waits operates begun found ends = ends.0
 
--- and an operation is pending, by the law, where it is by the lane
+-- and an operation is pending, by the law, where it is by the holder
 pub pends_so : (bytes client : ℕ) (asked : Option HandleCall) (here : State) (end : PollEnd) (last : Option Session) (cut : List Event) → OwnerAs (owner_by_parts bytes client asked (OwnerStage.Rests here end) last) cut
     → seen_is_pending_operation (own cut) ≡ (is_pending end && is_operation asked)
 pends_so bytes client asked here end last cut t =

@@ -6,7 +6,7 @@ use Rattle.blocking_world_state.proofs.Words.{Growth, JobNumber, IsPlanned, Kind
 use Rattle.blocking_world_laws.specs.OwnerLaws.{OwnerLaws}
 use Rattle.blocking_world_pool.specs.Moves as crew
 use Rattle.blocking_world_pool.specs.declared.hand.Stage.TheVariants as stage
-use Rattle.blocking_world_holders.specs.OwnerSteps as lanes
+use Rattle.blocking_world_holders.specs.OwnerSteps as holders
 use Rattle.blocking_world_holders.specs.OwnerSteps.{IsAside, owner_in}
 use Rattle.blocking_world_holders.specs.SessionJobs as jobs
 use Rattle.blocking_world_state.specs.Rows as row
@@ -131,9 +131,9 @@ module _ (setting : ℕ) (plan : List Bool) (w : Parts) (past : List Moment) (t 
   lent : (h : ℕ) (owner : Owner) (added : Result JobNumber Refusal) → May w (Lends h owner added) → crew.Moves (IsPlanned plan) (crew.Add (ByOwner h) owner.client added) w.crew e new.crew → Told (ByOwner h) None (added_act added) e
       → new.owners ≡ owners_after w (Lends h owner added) → OwnersHold new.owners (moment new at e ∷ past)
   lent h owner (Ok number) may does told is =
-      takes (lanes.Begins number) h 0 0 owner (Accepted number.serial) may.0 tt (ap (holder past) (added_of plan (ByOwner h) owner.client w.crew new.crew e number does).0 ∙ next_free setting plan w past t) may.1 refl
+      takes (holders.Begins number) h 0 0 owner (Accepted number.serial) may.0 tt (ap (holder past) (added_of plan (ByOwner h) owner.client w.crew new.crew e number does).0 ∙ next_free setting plan w past t) may.1 refl
       (seen_is new (ByOwner h) None None (Accepted number.serial) e told refl) is
-  lent h owner (Err why) may does told is = takes (lanes.IsRefused why) h 0 0 owner (Refused why) may.0 tt tt may.1 refl (seen_is new (ByOwner h) None None (Refused why) e told refl) is
+  lent h owner (Err why) may does told is = takes (holders.IsRefused why) h 0 0 owner (Refused why) may.0 tt tt may.1 refl (seen_is new (ByOwner h) None None (Refused why) e told refl) is
 
   -- the owner of a job that has to give up is gone
   gone_owner : (v : ℕ) (job : InHand) (h : ℕ) (owner : Owner) → IsHere w v job → holder past job.held.turn.serial ≡ Some (ByOwner h) → slice_get w.owners h ≡ Some owner → job.held.stage ≡ stage.MustGiveUp → is_gone owner.stage ≡ true
@@ -147,7 +147,7 @@ module _ (setting : ℕ) (plan : List Bool) (w : Parts) (past : List Moment) (t 
   goes v job h step owner act here held found its may does told whose is =
       let s = job.held.turn.serial in
       takes step h s v owner act found (subst (λ b. IsHeld b past h s) (sym its) held) (its_fresh past step its) may does
-      (seen_is new (Worker v) (Some s) (Some h) act e told whose ∙ sym (ap (λ b. lanes.event_for b h v s act e.first growth) its)) is
+      (seen_is new (Worker v) (Some s) (Some h) act e told whose ∙ sym (ap (λ b. holders.event_for b h v s act e.first growth) its)) is
 
   -- of what kind it is
   its_kind : (v : ℕ) (job : InHand) (h : ℕ) (it : SessionJob) → IsHere w v job → job.row.core ≡ core.Session h it → kind_of_job job.held.turn.serial (own (cut h (events past))) ≡ jobs.kind_of it
@@ -195,7 +195,7 @@ module _ (setting : ℕ) (plan : List Bool) (w : Parts) (past : List Moment) (t 
           let held = its_holder setting plan w past t v job _ here is in
           let owner = owner_there setting plan w past t h s held in
           let asks = asks_here setting plan w past t v job answer here may in
-          goes v job h (lanes.IsAnswered read answer) owner.0 (Answered answer) here held owner.1 refl (
+          goes v job h (holders.IsAnswered read answer) owner.0 (Answered answer) here held owner.1 refl (
             its_kind v job h read here is,
             subst (λ c. CoreAs c (acts_of s (events past))) is (t.rowed.each s job.row here.has_row).core asks.0,
             answer_of (jobs.action_of read) answer (ap (λ c. is_answered_action (next_in_turn GoesOn (row.action_of c)) answer) (sym is) ∙ asks.1),
@@ -214,16 +214,16 @@ owners_after_move setting plan w past t laws move e new may does rows owners = b
         (record { first = e.first; growth = record { started = e.started; refused = e.start_refused }; event_is = seen_is new (ByOwner (length w.owners)) None None (Made (length w.owners) capacity) e told refl })
         (record { tied = t.owned; laws = laws }))
     by (Asks step h call owner) may does rows is told =
-        takes setting plan w past t laws new _ e (lanes.IsAsked call) h 0 0 owner (Asked call) may.0 tt tt may.1.0 refl (seen_is new (ByOwner h) None None (Asked call) e told refl) is
+        takes setting plan w past t laws new _ e (holders.IsAsked call) h 0 0 owner (Asked call) may.0 tt tt may.1.0 refl (seen_is new (ByOwner h) None None (Asked call) e told refl) is
     by (Owns h owner did) may does rows is told =
-        takes setting plan w past t laws new _ e lanes.Acts h 0 0 owner did.act may.0 tt tt tt (ap act_in may.1) (seen_is new (ByOwner h) None None did.act e told refl)
+        takes setting plan w past t laws new _ e holders.Acts h 0 0 owner did.act may.0 tt tt tt (ap act_in may.1) (seen_is new (ByOwner h) None None did.act e told refl)
         (is ∙ sym (ap (λ o. slice_set w.owners h (owner_in o owner)) may.1))
     by (Lends h owner added) may does rows is told = lent setting plan w past t laws new _ e h owner added may does told is
     by (Delivers h owner number) may does rows is told =
-        takes setting plan w past t laws new _ e (lanes.Delivers told.0) h 0 0 owner (JobWoken number.serial told.0) may.0 tt tt tt (ap (delivered told.0) may.1)
+        takes setting plan w past t laws new _ e (holders.Delivers told.0) h 0 0 owner (JobWoken number.serial told.0) may.0 tt tt tt (ap (delivered told.0) may.1)
         (seen_is new (ByOwner h) None None (JobWoken number.serial told.0) e told.1 refl) is
     by (IsDropped h owner) may does rows is told =
-        takes setting plan w past t laws new _ e lanes.IsDropped h 0 0 owner HolderDropped may.0 tt tt may.1 refl (seen_is new (ByOwner h) None None HolderDropped e told refl) is
+        takes setting plan w past t laws new _ e holders.IsDropped h 0 0 owner HolderDropped may.0 tt tt may.1 refl (seen_is new (ByOwner h) None None HolderDropped e told refl) is
     by (Begins client added) may does rows is told = begun setting plan w past t laws new _ e client added does told is
     by (Calls k call task) may does rows is told = stay setting plan w past t laws new _ e (call_aside past new e k call task told) is
     by (Works v job did) may does rows is told = acted setting plan w past t laws new _ e v job did (job_here w v job may.0) may.1 told rows is

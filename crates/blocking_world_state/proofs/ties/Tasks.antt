@@ -6,7 +6,7 @@ use Rattle.blocking_world_state.proofs.Words.{Growth, JobNumber, IsPlanned, has_
 use Rattle.blocking_core.specs.declared.job.Action.TheVariants as action
 use Rattle.blocking_world_pool.specs.Moves as crew
 use Rattle.blocking_world_pool.specs.declared.hand.Stage.TheVariants as stage
-use Rattle.blocking_world_holders.specs.Steps as lanes
+use Rattle.blocking_world_holders.specs.Steps as holders
 use Rattle.blocking_world_holders.specs.Steps.{MayTake, act_of, event_by}
 use Rattle.blocking_world_state.specs.declared.row.Core.TheVariants as core
 use Rattle.blocking_pool.proofs.Places.{set_same}
@@ -79,11 +79,11 @@ module _ (setting : ℕ) (plan : List Bool) (w : Parts) (past : List Moment) (t 
 
   -- a task is called
   called : (k : ℕ) (task : Task) (call : TaskCall) → slice_get w.tasks k ≡ Some task → may_be task.stage call ≡ true → Told (ByTask k) None (task_act call task) e
-      → new.tasks ≡ slice_set w.tasks k (task_after (lanes.IsCalled call) task) → TasksHold new.tasks (moment new at e ∷ past)
+      → new.tasks ≡ slice_set w.tasks k (task_after (holders.IsCalled call) task) → TasksHold new.tasks (moment new at e ∷ past)
   called k task call found may told tasks =
       stepped w.tasks new.tasks past (moment new at e)
       (record {
-        step = lanes.IsCalled call;
+        step = holders.IsCalled call;
         place = k;
         job = task.number.serial;
         worker = 0;
@@ -159,7 +159,7 @@ module _ (setting : ℕ) (plan : List Bool) (w : Parts) (past : List Moment) (t 
           let fits = answered_so call.next answer (ap (λ c. is_answered_action (next_in_turn GoesOn (action_of c)) answer) (sym is) ∙ asks.1) in
           let ran : RanAs call.next call.number acts = subst (λ c. CoreAs c acts) is (t.rowed.each s job.row here.has_row).core asks.0 in
           let task = there w.tasks k (t.tasked.there k s (its_holder setting plan w past t v job _ here is)) in
-          goes v job k call (lanes.IsAnswered fits.1.0) task.0 here is task.1 refl (subst (λ next. RanAs next call.number acts) fits.0 ran) (subst (λ a. Told (Worker v) (Some s) (Answered a) e) fits.1.1 told)
+          goes v job k call (holders.IsAnswered fits.1.0) task.0 here is task.1 refl (subst (λ next. RanAs next call.number acts) fits.0 ran) (subst (λ a. Told (Worker v) (Some s) (Answered a) e) fits.1.1 told)
           (its_owner w v job (core_after_answer answer job.row.core) new.rows here rows ∙ ap (λ c. owner_in (core_after_answer answer c)) is) (tasks ∙ sym (set_same w.tasks k task.0 task.1))
       by (core.Session h read) is =
           stay (reader_beside past new e v job.held.turn.serial h (Answered answer) told (record { pool = refl; nothing = refl; made = refl; new = refl }) (its_holder setting plan w past t v job _ here is)) tasks

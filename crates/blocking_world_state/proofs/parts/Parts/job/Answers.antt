@@ -5,7 +5,7 @@ use Rattle.blocking_world_state.proofs.Types.{Job, Row}
 use Rattle.blocking_world_state.proofs.Words.{NeverAsked, Moves, Parts, job_at, places_of, done, IsDone}
 use Rattle.blocking_world_state.specs.contracts.parts.Parts.{the_view}
 use Rattle.blocking_world_state.proofs.moves.Jobs.{none_done, job_acts, job_rests}
-use Rattle.blocking_world_state.proofs.moves.Lanes.{same_lengths}
+use Rattle.blocking_world_state.proofs.moves.Holders.{same_lengths}
 use Rattle.blocking_world_state.proofs.moves.Steps.{idles}
 use Rattle.blocking_world_state.proofs.parts.Parts.job.Goals as goal
 

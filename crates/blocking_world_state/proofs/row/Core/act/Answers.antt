@@ -1,6 +1,6 @@
 use Rattle.std.proofs.Common.{get_or}
 use Rattle.std.proofs.lemmas.Option.{slice_get-get_or}
-use Rattle.blocking_world_state.proofs.moves.Lanes.{call_acts, session_acts}
+use Rattle.blocking_world_state.proofs.moves.Holders.{call_acts, session_acts}
 use Rattle.blocking_world_state.proofs.moves.Steps.{ok_map}
 use Rattle.blocking_world_state.proofs.row.Core.act.Goals as goal
 
