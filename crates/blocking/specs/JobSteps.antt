@@ -2,11 +2,11 @@
 use Rattle.std.specs.Prelude.{◌≡◌, ℕ, List, Option}
 use Rattle.blocking_pool.specs.declared.pool.job.JobStep.{JobStep}
 use Rattle.blocking_executor.specs.Calls.{IsAnswered, told_by}
-use Rattle.blocking_unblock_jobs.specs.Readers.{IsStepped as IsReadStep}
-use Rattle.blocking_unblock_jobs.specs.Writers.{IsStepped as IsWriteStep}
-use Rattle.blocking_unblock_jobs.specs.Iterators.{IsStepped as IsItemStep}
-use Rattle.blocking_unblock_jobs.specs.Operators.{IsStepped as IsOpStep}
-use Rattle.blocking_unblock_jobs.specs.Seekers.{IsStepped as IsSeekStep}
+use Rattle.blocking_unblock_jobs.specs.ReadJobs.{IsStepped as IsReadStep}
+use Rattle.blocking_unblock_jobs.specs.WriteJobs.{IsStepped as IsWriteStep}
+use Rattle.blocking_unblock_jobs.specs.ItemJobs.{IsStepped as IsItemStep}
+use Rattle.blocking_unblock_jobs.specs.OpJobs.{IsStepped as IsOpStep}
+use Rattle.blocking_unblock_jobs.specs.SeekJobs.{IsStepped as IsSeekStep}
 use Rattle.blocking.specs.declared.jobs.Jobs.{Jobs}
 use Rattle.blocking.specs.declared.jobs.Jobs.TheVariants.{Call, Read, Write, Item, Seek, Op}
 

@@ -317,7 +317,7 @@ impl<T: Seek + Drop, I: Drop, J: Job + Carries<SeekJob<T, H>>, H: Runtime> Async
     for Open<T, I, J, H> {
     ghost use Rattle.blocking_core.specs.declared.unblock.PollCall.TheVariants.{Seek as SeekCall};
     ghost use Rattle.blocking_unblock.specs.Owners.{Follows, KeepsRefused, reply_of_seek};
-    ghost use Rattle.blocking_unblock_jobs.specs.Seekers.{position_of};
+    ghost use Rattle.blocking_unblock_jobs.specs.SeekJobs.{position_of};
 
     ghost closed = { λ _. ⊥ };
 

@@ -1,12 +1,12 @@
 //! The decision cores of jobs: what a job does next, and what it makes of the answer.
 mod item;
-mod operation;
+mod op;
 mod read;
 mod seek;
 mod write;
 
 pub use self::item::{ItemAction, ItemAnswer, ItemCore};
-pub use self::operation::{OpAction, OpAnswer, OpCore};
+pub use self::op::{OpAction, OpAnswer, OpCore};
 pub use self::read::{PIECE, ReadAction, ReadAnswer, ReadCore};
 pub use self::seek::{SeekAction, SeekAnswer, SeekCore};
 pub use self::write::{WriteAction, WriteAnswer, WriteCore};

@@ -2,7 +2,7 @@
 ghost use Rattle.std.specs.Prelude.{◌≡◌, ◌⊎◌, ◌+◌, ◌<◌, ◌≤◌, ◌↔◌, true, false, length, None, Some, IfOk, IfErr, IfSome};
 ghost use Rattle.futures.specs.Poll.{IfReady, OnPending};
 ghost use Rattle.futures.specs.Task.{IsArmed, Keeps};
-ghost use Rattle.blocking_unblock_jobs.specs.Seekers.{position_of};
+ghost use Rattle.blocking_unblock_jobs.specs.SeekJobs.{position_of};
 ghost use Rattle.blocking_unblock.specs.Owners.{IsHeld};
 
 use crate::lend::{Capacity, Lends, ToNobody, ToOperate, ToRead, ToSeek, ToStream, ToWrite};
@@ -752,7 +752,7 @@ impl<T: Seek + Drop, I: Drop, J: Job + Carries<SeekJob<T, H>>, H: Runtime> Async
     for Unblock<T, I, J, H> {
     ghost use Rattle.blocking_core.specs.declared.unblock.PollCall.TheVariants.{Seek as SeekCall};
     ghost use Rattle.blocking_unblock.specs.Owners.{IsClosed, Follows, KeepsRefused, reply_of_seek};
-    ghost use Rattle.blocking_unblock_jobs.specs.Seekers.{position_of};
+    ghost use Rattle.blocking_unblock_jobs.specs.SeekJobs.{position_of};
 
     ghost closed = { λ owner. IsClosed owner.place };
 

@@ -1,6 +1,6 @@
-pub mod Iterators
-pub mod Operators
-pub mod Readers
-pub mod Seekers
-pub mod Writers
+pub mod ItemJobs
+pub mod OpJobs
+pub mod ReadJobs
+pub mod SeekJobs
+pub mod WriteJobs
 pub mod Works

@@ -39,7 +39,7 @@ pub struct ItemJob<T: Iterator<Item = I> + Drop, I: Drop, H: Wait + Copy> {
 }
 
 impl<T: Iterator<Item = I> + Drop, I: Drop, H: Wait + Copy> Model for ItemJob<T, I, H> {
-    ghost use Rattle.blocking_unblock_jobs.specs.Iterators.{ItemSeen, item_code, Fits, HasClosed};
+    ghost use Rattle.blocking_unblock_jobs.specs.ItemJobs.{ItemSeen, item_code, Fits, HasClosed};
     ghost use Rattle.blocking_unblock_jobs.specs.Works.{IsKept};
 
     ghost Value = { ItemSeen T I };
@@ -56,7 +56,7 @@ impl<T: Iterator<Item = I> + Drop, I: Drop, H: Wait + Copy> Model for ItemJob<T,
 }
 
 impl<T: Iterator<Item = I> + Drop, I: Drop, H: Wait + Copy> ItemJob<T, I, H> {
-    ghost use Rattle.blocking_unblock_jobs.specs.Iterators.{ItemSeen, IsSteppedBy};
+    ghost use Rattle.blocking_unblock_jobs.specs.ItemJobs.{ItemSeen, IsSteppedBy};
 
     /// The job of a session of items: `end` is the pipe into which they go. The iterator comes back by the share.
     pub fn new(
@@ -232,7 +232,7 @@ impl<T: Iterator<Item = I> + Drop, I: Drop, H: Wait + Copy> Carries<ItemJob<T, I
 }
 
 impl<T: Iterator<Item = I> + Drop, I: Drop, H: Wait + Copy> Job for ItemJob<T, I, H> {
-    ghost use Rattle.blocking_unblock_jobs.specs.Iterators.{IsStepped};
+    ghost use Rattle.blocking_unblock_jobs.specs.ItemJobs.{IsStepped};
 
     // (another thread may set the mark at any time)
     ghost may_answer = { λ _ _. Unit {0} };

@@ -2,7 +2,7 @@
 ghost use Rattle.std.specs.Prelude.{◌≡◌, None, Some, OnErr, IfOk};
 ghost use Rattle.futures.specs.Task.{IsArmed, Keeps};
 ghost use Rattle.blocking_core.specs.declared.job.operation.OpAction.TheVariants.{Call, PutResult, Finish, Deliver};
-ghost use Rattle.blocking_core.specs.Operations.{new_operation, operation_next};
+ghost use Rattle.blocking_core.specs.Ops.{new_operation, operation_next};
 
 use crate::share::{Given, MayFail, SessionShare, put_result};
 use blocking_core::job::{OpAction, OpAnswer, OpCore};
@@ -100,7 +100,7 @@ pub struct OpJob<F: CallOn<T, Out: Drop> + Drop, T: Drop, H: Wait + Copy> {
 }
 
 impl<F: CallOn<T, Out: Drop> + Drop, T: Drop, H: Wait + Copy> Model for OpJob<F, T, H> {
-    ghost use Rattle.blocking_unblock_jobs.specs.Operators.{OpSeen, op_code, Fits, HasPut};
+    ghost use Rattle.blocking_unblock_jobs.specs.OpJobs.{OpSeen, op_code, Fits, HasPut};
     ghost use Rattle.blocking_unblock_jobs.specs.Works.{IsKept};
 
     ghost Value = { OpSeen F T F.Out };
@@ -115,7 +115,7 @@ impl<F: CallOn<T, Out: Drop> + Drop, T: Drop, H: Wait + Copy> Model for OpJob<F,
 }
 
 impl<F: CallOn<T, Out: Drop> + Drop, T: Drop, H: Wait + Copy> OpJob<F, T, H> {
-    ghost use Rattle.blocking_unblock_jobs.specs.Operators.{OpSeen, IsSteppedBy};
+    ghost use Rattle.blocking_unblock_jobs.specs.OpJobs.{OpSeen, IsSteppedBy};
 
     /// The job that makes this operation on this handle. Its result goes to `place`, and the handle comes back by the share.
     pub fn new(
@@ -273,7 +273,7 @@ impl<F: CallOn<T, Out: Drop> + Drop, T: Drop, H: Wait + Copy> Carries<OpJob<F, T
 }
 
 impl<F: CallOn<T, Out: Drop> + Drop, T: Drop, H: Wait + Copy> Job for OpJob<F, T, H> {
-    ghost use Rattle.blocking_unblock_jobs.specs.Operators.{IsStepped};
+    ghost use Rattle.blocking_unblock_jobs.specs.OpJobs.{IsStepped};
 
     // (another thread may set the mark at any time)
     ghost may_answer = { λ _ _. Unit {0} };

@@ -2,7 +2,7 @@
 ghost use Rattle.std.specs.Prelude.{◌≡◌, ◌<◌, ◌≤◌, length, take, None, Some, IfOk};
 ghost use Rattle.std.specs.Io.KnownBytes.{ReadConsumes};
 ghost use Rattle.blocking_core.specs.declared.job.read.ReadAction.TheVariants.{FindRoom, Read as ReadPiece, Put as PutPiece, Close, Finish, Deliver};
-ghost use Rattle.blocking_core.specs.Reading.{new_read, read_next};
+ghost use Rattle.blocking_core.specs.Reads.{new_read, read_next};
 
 use crate::share::{Given, MayFail, SessionShare, SessionStore};
 use blocking_core::io::JobFault;
@@ -38,7 +38,7 @@ struct Reading<T: Drop, H: Wait + Copy> {
 
 impl<T: Drop, H: Wait + Copy> Model for Reading<T, H> {
     ghost use Rattle.std.specs.Prelude.{◌<◌, vec_len};
-    ghost use Rattle.blocking_unblock_jobs.specs.Readers.{Reading as Seen, reading_code};
+    ghost use Rattle.blocking_unblock_jobs.specs.ReadJobs.{Reading as Seen, reading_code};
 
     ghost Value = { Seen T };
 
@@ -77,7 +77,7 @@ pub struct ReadJob<T: Drop, H: Wait + Copy> {
 }
 
 impl<T: Drop, H: Wait + Copy> Model for ReadJob<T, H> {
-    ghost use Rattle.blocking_unblock_jobs.specs.Readers.{ReadSeen, read_code, Fits, HasClosed};
+    ghost use Rattle.blocking_unblock_jobs.specs.ReadJobs.{ReadSeen, read_code, Fits, HasClosed};
     ghost use Rattle.blocking_unblock_jobs.specs.Works.{IsKept};
 
     ghost Value = { ReadSeen T };
@@ -101,7 +101,7 @@ fn ask<T: Read>(reader: &mut T, piece: &mut [u8], most: usize) -> io::Result<usi
 
 impl<T: Drop, H: Wait + Copy> ReadJob<T, H> {
     ghost use Rattle.std.specs.Prelude.{option_map, vec_len};
-    ghost use Rattle.blocking_unblock_jobs.specs.Readers.{ReadSeen};
+    ghost use Rattle.blocking_unblock_jobs.specs.ReadJobs.{ReadSeen};
 
     /// The job of a session that reads: `piece` is what it reads into, and `end` the pipe into which that goes. The reader comes back over
     /// the share.
@@ -159,7 +159,7 @@ impl<T: Drop, H: Wait + Copy> ReadJob<T, H> {
 }
 
 impl<T: Read + Drop, H: Wait + Copy> ReadJob<T, H> {
-    ghost use Rattle.blocking_unblock_jobs.specs.Readers.{IsSteppedBy};
+    ghost use Rattle.blocking_unblock_jobs.specs.ReadJobs.{IsSteppedBy};
 
     fn find_room(&mut self, me: JobNo) -> JobStep
         requires { read_next self.old.core ≡ FindRoom }
@@ -317,7 +317,7 @@ impl<T: Drop, H: Wait + Copy> Carries<ReadJob<T, H>> for ReadJob<T, H> {
 }
 
 impl<T: Read + Drop, H: Wait + Copy> Job for ReadJob<T, H> {
-    ghost use Rattle.blocking_unblock_jobs.specs.Readers.{IsStepped};
+    ghost use Rattle.blocking_unblock_jobs.specs.ReadJobs.{IsStepped};
 
     // (another thread may set the mark at any time)
     ghost may_answer = { λ _ _. Unit {0} };

@@ -2,7 +2,7 @@
 ghost use Rattle.std.specs.Prelude.{◌≡◌, None, Some};
 ghost use Rattle.blocking_core.specs.declared.job.seek.SeekAction.TheVariants.{Seek as MakeSeek, Finish, Deliver};
 ghost use Rattle.blocking_core.specs.Seeks.{new_seek, seek_next};
-ghost use Rattle.blocking_unblock_jobs.specs.Seekers.{seek_from};
+ghost use Rattle.blocking_unblock_jobs.specs.SeekJobs.{seek_from};
 
 use crate::share::{Given, SessionShare, Sought};
 use blocking_core::io::Position;
@@ -41,7 +41,7 @@ pub struct SeekJob<T: Drop, H: Wait + Copy> {
 }
 
 impl<T: Drop, H: Wait + Copy> Model for SeekJob<T, H> {
-    ghost use Rattle.blocking_unblock_jobs.specs.Seekers.{SeekSeen, seek_code, Fits};
+    ghost use Rattle.blocking_unblock_jobs.specs.SeekJobs.{SeekSeen, seek_code, Fits};
     ghost use Rattle.blocking_unblock_jobs.specs.Works.{IsKept};
 
     ghost Value = { SeekSeen T };
@@ -65,7 +65,7 @@ fn seek_from(position: Position) -> SeekFrom
 }
 
 impl<T: Drop, H: Wait + Copy> SeekJob<T, H> {
-    ghost use Rattle.blocking_unblock_jobs.specs.Seekers.{SeekSeen};
+    ghost use Rattle.blocking_unblock_jobs.specs.SeekJobs.{SeekSeen};
 
     /// The job that seeks `to` a position. The handle comes back by the share, and with it where it is then.
     pub fn new(rt: H, handle: T, to: Position, share: Arc<SessionShare<T, Sought>>) -> SeekJob<T, H>
@@ -102,7 +102,7 @@ impl<T: Drop, H: Wait + Copy> SeekJob<T, H> {
 }
 
 impl<T: Seek + Drop, H: Wait + Copy> SeekJob<T, H> {
-    ghost use Rattle.blocking_unblock_jobs.specs.Seekers.{IsSteppedBy};
+    ghost use Rattle.blocking_unblock_jobs.specs.SeekJobs.{IsSteppedBy};
 
     fn seek(&mut self) -> JobStep
         requires { seek_next self.old.core ≡ MakeSeek }
@@ -200,7 +200,7 @@ impl<T: Drop, H: Wait + Copy> Carries<SeekJob<T, H>> for SeekJob<T, H> {
 }
 
 impl<T: Seek + Drop, H: Wait + Copy> Job for SeekJob<T, H> {
-    ghost use Rattle.blocking_unblock_jobs.specs.Seekers.{IsStepped};
+    ghost use Rattle.blocking_unblock_jobs.specs.SeekJobs.{IsStepped};
 
     // (another thread may set the mark at any time)
     ghost may_answer = { λ _ _. Unit {0} };

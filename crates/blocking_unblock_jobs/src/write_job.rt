@@ -3,7 +3,7 @@ ghost use Rattle.std.specs.Prelude.{◌≡◌, ◌<◌, ◌≤◌, length, take,
 ghost use Rattle.std.specs.Io.{WritesAtMost};
 ghost use Rattle.std.specs.Io.KnownBytes.{WriteAppends};
 ghost use Rattle.blocking_core.specs.declared.job.write.WriteAction.TheVariants.{Peek, Write as WritePiece, Consume, Flush, Close, Finish, Deliver};
-ghost use Rattle.blocking_core.specs.Writing.{new_write, write_next};
+ghost use Rattle.blocking_core.specs.Writes.{new_write, write_next};
 
 use crate::flush::{Flushed, flush};
 use crate::share::{Given, MayFail, SessionShare, SessionStore};
@@ -34,7 +34,7 @@ struct Writing<T: Drop, H: Wait + Copy> {
 }
 
 impl<T: Drop, H: Wait + Copy> Model for Writing<T, H> {
-    ghost use Rattle.blocking_unblock_jobs.specs.Writers.{Writing as Seen, writing_code};
+    ghost use Rattle.blocking_unblock_jobs.specs.WriteJobs.{Writing as Seen, writing_code};
 
     ghost Value = { Seen T };
 
@@ -71,7 +71,7 @@ pub struct WriteJob<T: Drop, H: Wait + Copy> {
 }
 
 impl<T: Drop, H: Wait + Copy> Model for WriteJob<T, H> {
-    ghost use Rattle.blocking_unblock_jobs.specs.Writers.{WriteSeen, write_code, Fits, HasClosed, HasFlushed};
+    ghost use Rattle.blocking_unblock_jobs.specs.WriteJobs.{WriteSeen, write_code, Fits, HasClosed, HasFlushed};
     ghost use Rattle.blocking_unblock_jobs.specs.Works.{IsKept};
 
     ghost Value = { WriteSeen T };
@@ -97,7 +97,7 @@ fn offer<T: Write>(writer: &mut T, piece: &[u8], most: usize) -> io::Result<usiz
 
 impl<T: Drop, H: Wait + Copy> WriteJob<T, H> {
     ghost use Rattle.std.specs.Prelude.{option_map};
-    ghost use Rattle.blocking_unblock_jobs.specs.Writers.{WriteSeen};
+    ghost use Rattle.blocking_unblock_jobs.specs.WriteJobs.{WriteSeen};
 
     /// The job of a session that writes: `end` shows it the pipe that it writes out. The writer comes back by the share.
     pub fn new(
@@ -145,7 +145,7 @@ impl<T: Drop, H: Wait + Copy> WriteJob<T, H> {
 }
 
 impl<T: Write + Drop, H: Wait + Copy> WriteJob<T, H> {
-    ghost use Rattle.blocking_unblock_jobs.specs.Writers.{IsSteppedBy};
+    ghost use Rattle.blocking_unblock_jobs.specs.WriteJobs.{IsSteppedBy};
 
     fn peek(&mut self, me: JobNo) -> JobStep
         requires { write_next self.old.core ≡ Peek }
@@ -308,7 +308,7 @@ impl<T: Drop, H: Wait + Copy> Carries<WriteJob<T, H>> for WriteJob<T, H> {
 }
 
 impl<T: Write + Drop, H: Wait + Copy> Job for WriteJob<T, H> {
-    ghost use Rattle.blocking_unblock_jobs.specs.Writers.{IsStepped};
+    ghost use Rattle.blocking_unblock_jobs.specs.WriteJobs.{IsStepped};
 
     // (another thread may set the mark at any time)
     ghost may_answer = { λ _ _. Unit {0} };

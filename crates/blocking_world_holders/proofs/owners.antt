@@ -1,13 +1,13 @@
 pub mod ReadJobs
 pub mod WriteJobs
-pub mod StreamJobs
+pub mod ItemJobs
 pub mod SeekJobs
-pub mod OperationJobs
+pub mod OpJobs
 pub mod ReadSessions
 pub mod WriteSessions
-pub mod StreamSessions
+pub mod ItemSessions
 pub mod SeekSessions
-pub mod OperationSessions
+pub mod OpSessions
 pub mod Results
 pub mod Drains
 pub mod Fills

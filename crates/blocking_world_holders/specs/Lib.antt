@@ -4,9 +4,9 @@ pub mod Ties
 pub mod Steps
 pub mod Reads
 pub mod Writes
-pub mod Streams
+pub mod Items
 pub mod Seeks
-pub mod Operations
+pub mod Ops
 pub mod SessionJobs
 pub mod Passages
 pub mod Sessions

@@ -3,10 +3,10 @@ use Rattle.std.specs.Prelude.{◌≡◌, ℕ, ◌==◌, ◌&&◌, ◌||◌, not,
 use Rattle.blocking_core.specs.OwnerCalls.{OwnerMachine, new_poll, owner_next, owner_after}
 use Rattle.blocking_core.specs.Pipes.{Pipe}
 use Rattle.blocking_core.specs.Places.{Met, Served, Waiting, Closed}
-use Rattle.blocking_core.specs.Reading.{read_next}
-use Rattle.blocking_core.specs.Writing.{write_next}
+use Rattle.blocking_core.specs.Reads.{read_next}
+use Rattle.blocking_core.specs.Writes.{write_next}
 use Rattle.blocking_core.specs.Seeks.{seek_next}
-use Rattle.blocking_core.specs.Operations.{operation_next}
+use Rattle.blocking_core.specs.Ops.{operation_next}
 use Rattle.blocking_core.specs.Slots.{Content, Empty, Full, GivenUp, Abandoned, empty_slot}
 use Rattle.blocking_core.specs.declared.io.Fault.{Fault}
 use Rattle.blocking_core.specs.Items.{item_next}
@@ -49,10 +49,10 @@ use Rattle.blocking_world_holders.specs.Passages.{Goods, OfBytes, OfItems, throu
 use Rattle.blocking_world_holders.specs.Reads as reads
 use Rattle.blocking_world_holders.specs.SessionJobs.{new_job}
 use Rattle.blocking_world_holders.specs.Sessions.{Session, Work, goods_of, serial_of, drained, filled, reach, front, session_after_close, session_after_drain, session_after_fill, session_after_look, session_after_give_up, give_up_wakes, streamer_works, work_by, writer_works, received, session_after_receive, session_after_find, seek_works, operation_works}
-use Rattle.blocking_world_holders.specs.Streams as streams
+use Rattle.blocking_world_holders.specs.Items as streams
 use Rattle.blocking_world_holders.specs.Writes as writes
 use Rattle.blocking_world_holders.specs.Seeks as seeks
-use Rattle.blocking_world_holders.specs.Operations as operations
+use Rattle.blocking_world_holders.specs.Ops as operations
 use Rattle.blocking_world_holders.specs.declared.job.SessionJob.{SessionJob}
 use Rattle.blocking_world_holders.specs.declared.job.SessionJob.TheVariants as of_job
 use Rattle.blocking_world_holders.specs.declared.owner.OwnerNext.{OwnerNext}

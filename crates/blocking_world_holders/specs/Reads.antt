@@ -1,7 +1,7 @@
 -- How far the job of a reader is, and how that hangs together with what it has done.
 use Rattle.std.specs.Prelude.{◌≡◌, ℕ, Bool, false, List, [], ◌∷◌, length, Option, Some, None}
 use Rattle.blocking_core.specs.Machines.{Machine}
-use Rattle.blocking_core.specs.Reading.{new_read, read_next, read_after}
+use Rattle.blocking_core.specs.Reads.{new_read, read_next, read_after}
 use Rattle.blocking_core.specs.declared.io.Fault.{Fault}
 use Rattle.blocking_core.specs.declared.io.Fault.TheVariants.{Io}
 use Rattle.blocking_core.specs.declared.job.read.ReadAction.{ReadAction}

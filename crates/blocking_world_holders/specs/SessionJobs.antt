@@ -5,14 +5,14 @@ use Rattle.blocking_world_laws.specs.declared.event.Act.{Act}
 use Rattle.blocking_world_laws.specs.declared.step.Answer.{Answer}
 use Rattle.blocking_world_holders.specs.Reads as reads
 use Rattle.blocking_world_holders.specs.Reads.{ReadAs}
-use Rattle.blocking_world_holders.specs.Streams as streams
-use Rattle.blocking_world_holders.specs.Streams.{ItemAs}
+use Rattle.blocking_world_holders.specs.Items as streams
+use Rattle.blocking_world_holders.specs.Items.{ItemAs}
 use Rattle.blocking_world_holders.specs.Writes as writes
 use Rattle.blocking_world_holders.specs.Writes.{WriteAs}
 use Rattle.blocking_world_holders.specs.Seeks as seeks
 use Rattle.blocking_world_holders.specs.Seeks.{SeekAs}
-use Rattle.blocking_world_holders.specs.Operations as operations
-use Rattle.blocking_world_holders.specs.Operations.{OperationAs}
+use Rattle.blocking_world_holders.specs.Ops as operations
+use Rattle.blocking_world_holders.specs.Ops.{OperationAs}
 use Rattle.blocking_world_holders.specs.declared.job.SessionJob.{SessionJob}
 use Rattle.blocking_world_holders.specs.declared.job.SessionJob.TheVariants.{Read, Write, Items, Seek, Operate}
 

@@ -28,10 +28,10 @@ use Rattle.blocking_world_laws.specs.declared.event.Act.{Act}
 use Rattle.blocking_world_laws.specs.declared.event.Act.TheVariants.{Taken, JobClosed, ResultPut, Finished}
 use Rattle.blocking_world_holders.specs.Passages.{Goods, OfBytes, OfItems, closed_by_owner, closed_by_job, OfNothing}
 use Rattle.blocking_world_holders.specs.Reads.{Progress, progress_with}
-use Rattle.blocking_world_holders.specs.Streams as streams
+use Rattle.blocking_world_holders.specs.Items as streams
 use Rattle.blocking_world_holders.specs.Writes as writes
 use Rattle.blocking_world_holders.specs.Seeks as seeks
-use Rattle.blocking_world_holders.specs.Operations as operations
+use Rattle.blocking_world_holders.specs.Ops as operations
 use Rattle.blocking_pool.specs.Jobs.{JobNumber}
 
 -- A session: the number of its job, what passes through its pipe, the item that came out of it last, or the result of its operation, 0 before

@@ -1,7 +1,7 @@
 -- How far the job of a writer is, and how that hangs together with what it has done.
 use Rattle.std.specs.Prelude.{◌≡◌, ℕ, List, [], length, Option, Some, None}
 use Rattle.blocking_core.specs.Faults.{told}
-use Rattle.blocking_core.specs.Writing.{WriteMachine, new_write, write_next, write_after}
+use Rattle.blocking_core.specs.Writes.{WriteMachine, new_write, write_next, write_after}
 use Rattle.blocking_core.specs.declared.io.Fault.{Fault}
 use Rattle.blocking_core.specs.declared.io.JobFault.{JobFault}
 use Rattle.blocking_core.specs.declared.job.write.WriteAction.{WriteAction}

@@ -14,7 +14,7 @@ pub struct ItemProgress {
 }
 
 impl Model for ItemProgress {
-    ghost use Rattle.blocking_world_holders.specs.Streams.{Progress};
+    ghost use Rattle.blocking_world_holders.specs.Items.{Progress};
 
     ghost Value = { Progress };
 
@@ -25,7 +25,7 @@ impl ItemProgress {
     ghost use Rattle.blocking_core.specs.Items.{item_next};
     ghost use Rattle.blocking_core.specs.declared.job.item.ItemAnswer.TheVariants as by;
     ghost use Rattle.blocking_world_laws.specs.JobTable.{is_answer};
-    ghost use Rattle.blocking_world_holders.specs.Streams.{not_begun, action_of, progress_after_answer, progress_with};
+    ghost use Rattle.blocking_world_holders.specs.Items.{not_begun, action_of, progress_after_answer, progress_with};
 
     /// A job that has done nothing yet.
     pub fn new() -> ItemProgress

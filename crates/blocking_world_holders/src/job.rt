@@ -2,7 +2,7 @@
 ghost use Rattle.std.specs.Prelude.{◌≡◌};
 
 use crate::item::ItemProgress;
-use crate::operation::OperationProgress;
+use crate::op::OpProgress;
 use crate::read::ReadProgress;
 use crate::seek::SeekProgress;
 use crate::write::WriteProgress;
@@ -21,7 +21,7 @@ pub enum SessionJob {
     /// It moves the handle to a position.
     Seek(SeekProgress),
     /// It runs its owner's operation on the handle.
-    Operate(OperationProgress),
+    Operate(OpProgress),
 }
 
 impl SessionJob {

@@ -8,7 +8,7 @@ ghost use Rattle.blocking_world_laws.specs.Sessions.{is_again, is_into_inner, is
 
 use crate::item::ItemProgress;
 use crate::job::SessionJob;
-use crate::operation::OperationProgress;
+use crate::op::OpProgress;
 use crate::passage::Passage;
 use crate::read::ReadProgress;
 use crate::seek::SeekProgress;
@@ -632,7 +632,7 @@ impl Owner {
             Some(HandleCall::Next) => SessionJob::Items(ItemProgress::new()),
             Some(HandleCall::Seek(goal)) => SessionJob::Seek(SeekProgress::new(*goal)),
             Some(HandleCall::Operate | HandleCall::OperateAgain) => {
-                SessionJob::Operate(OperationProgress::new())
+                SessionJob::Operate(OpProgress::new())
             }
             _ => SessionJob::Read(ReadProgress::new(alloc)),
         }
@@ -798,7 +798,7 @@ impl Owner {
     }
 
     // A job that runs an operation takes its next action.
-    fn operate(&mut self, job: &mut OperationProgress) -> Option<Act>
+    fn operate(&mut self, job: &mut OpProgress) -> Option<Act>
         ensures { IsWorked (worked (of_job.Operate job.old) self.old) (of_job.Operate job.old) self.old result (of_job.Operate job.new) self.new }
     {
         if let OpAction::Deliver = job.next() {

@@ -25,7 +25,7 @@ impl Model for ReadProgress {
 }
 
 impl ReadProgress {
-    ghost use Rattle.blocking_core.specs.Reading.{read_next};
+    ghost use Rattle.blocking_core.specs.Reads.{read_next};
     ghost use Rattle.blocking_core.specs.declared.job.read.ReadAnswer.TheVariants as by;
     ghost use Rattle.blocking_world_laws.specs.JobTable.{is_answer};
     ghost use Rattle.blocking_world_holders.specs.Reads.{not_begun, action_of, progress_after_answer, progress_after_gift, progress_after_failure, progress_with};

@@ -2,7 +2,7 @@
 ghost use Rattle.std.specs.Prelude.{◌≡◌, ◌<◌, ◌≤◌, true, length, []};
 
 use crate::item::ItemProgress;
-use crate::operation::OperationProgress;
+use crate::op::OpProgress;
 use crate::passage::Passage;
 use crate::read::ReadProgress;
 use crate::seek::SeekProgress;
@@ -103,12 +103,12 @@ impl Model for Session {
 impl Session {
     ghost use Rattle.std.specs.Prelude.{vec_len, IfOk, OnErr};
     ghost use Rattle.blocking_core.specs.Items.{item_next};
-    ghost use Rattle.blocking_core.specs.Reading.{read_next};
+    ghost use Rattle.blocking_core.specs.Reads.{read_next};
     ghost use Rattle.blocking_core.specs.Slots.{empty_slot};
-    ghost use Rattle.blocking_core.specs.Writing.{write_next};
+    ghost use Rattle.blocking_core.specs.Writes.{write_next};
     ghost use Rattle.blocking_world_holders.specs.Passages.{OfBytes, OfItems, is_bytes, is_items, goods_in, pipe_in, through, is_piped};
     ghost use Rattle.blocking_core.specs.Seeks.{seek_next};
-    ghost use Rattle.blocking_core.specs.Operations.{operation_next};
+    ghost use Rattle.blocking_core.specs.Ops.{operation_next};
     ghost use Rattle.blocking_world_holders.specs.Sessions.{filled, session_after_fill, front, found_piece, holds, work_at_peek, work_of_consume};
     ghost use Rattle.blocking_world_holders.specs.Sessions.{found_send, streamer_closes, streamer_finishes, streamer_works, work_at_send, seek_finishes, seek_works};
     ghost use Rattle.blocking_world_holders.specs.Sessions.{writer_closes, writer_finishes, writer_works, seek_finishes, seek_works};
@@ -623,7 +623,7 @@ impl Session {
     // ---- a job that runs an operation
 
     // The job puts the result of its operation.
-    fn put_result(&mut self, job: &mut OperationProgress) -> Act
+    fn put_result(&mut self, job: &mut OpProgress) -> Act
         ensures { operation_puts job.old self.old
             ≡ record { act = result; job = job.new; session = self.new } }
     {
@@ -633,7 +633,7 @@ impl Session {
     }
 
     // The job puts its own result into the slot.
-    fn finish_operation(&mut self, job: &mut OperationProgress) -> Act
+    fn finish_operation(&mut self, job: &mut OpProgress) -> Act
         ensures { operation_finishes job.old self.old
             ≡ record { act = result; job = job.new; session = self.new } }
     {
@@ -643,7 +643,7 @@ impl Session {
     }
 
     /// A job that runs an operation takes its next action, where it takes it at its session: what is seen of it.
-    pub(crate) fn operate(&mut self, job: &mut OperationProgress) -> Option<Act>
+    pub(crate) fn operate(&mut self, job: &mut OpProgress) -> Option<Act>
         ensures { IsWork (operation_works (operation_next job.old.core) job.old self.old) job.old self.old result job.new self.new }
     {
         match job.next() {

@@ -25,7 +25,7 @@ impl Model for WriteProgress {
 }
 
 impl WriteProgress {
-    ghost use Rattle.blocking_core.specs.Writing.{write_next};
+    ghost use Rattle.blocking_core.specs.Writes.{write_next};
     ghost use Rattle.blocking_core.specs.declared.job.write.WriteAnswer.TheVariants as by;
     ghost use Rattle.blocking_world_laws.specs.JobTable.{is_answer};
     ghost use Rattle.blocking_world_holders.specs.Writes.{not_begun, action_of, fault_of, progress_after_answer, progress_after_piece, progress_with};

@@ -33,6 +33,6 @@ pub mod Traces
 pub mod OwnerTraces
 pub mod CopyTraces
 pub mod WriteTraces
-pub mod StreamTraces
+pub mod ItemTraces
 pub mod SeekTraces
-pub mod OperationTraces
+pub mod OpTraces

@@ -1,14 +1,14 @@
 -- The words of the definitions that the proofs here speak of, by their names.
 -- of pipes, slots and machines
 pub use Rattle.blocking_core.specs.Items.{item_next}
-pub use Rattle.blocking_core.specs.Operations.{operation_next}
+pub use Rattle.blocking_core.specs.Ops.{operation_next}
 pub use Rattle.blocking_core.specs.OwnerCalls.{OwnerMachine, owner_next}
 pub use Rattle.blocking_core.specs.Pipes.{Pipe, empty_pipe, room}
 pub use Rattle.blocking_core.specs.Places.{Met, Served, Waiting, Closed, drain, fill, peek}
-pub use Rattle.blocking_core.specs.Reading.{read_next}
+pub use Rattle.blocking_core.specs.Reads.{read_next}
 pub use Rattle.blocking_core.specs.Seeks.{seek_next}
 pub use Rattle.blocking_core.specs.Slots.{Content, Empty, Full, Abandoned, after_put}
-pub use Rattle.blocking_core.specs.Writing.{write_next}
+pub use Rattle.blocking_core.specs.Writes.{write_next}
 -- of the pool
 pub use Rattle.blocking_pool.specs.Growth.{Narrows, Growth}
 pub use Rattle.blocking_pool.specs.Jobs.{JobNumber, Job as Entry, one_if}

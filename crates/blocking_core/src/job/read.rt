@@ -71,7 +71,7 @@ impl Model for ReadCore {
 
 impl ReadCore {
     ghost use Rattle.std.specs.Prelude.{◌≡◌};
-    ghost use Rattle.blocking_core.specs.Reading.{new_read, read_next, read_after};
+    ghost use Rattle.blocking_core.specs.Reads.{new_read, read_next, read_after};
 
     /// The core of a job that hasn't begun.
     pub fn new() -> Self

@@ -2,7 +2,7 @@
 //! took. It does so until the owner's end is closed and the pipe is empty, or the writer fails. Then it flushes the writer, closes
 //! its end of the pipe, and leaves the writer in the slot.
 ghost use Rattle.std.specs.Prelude.{◌≡◌};
-ghost use Rattle.blocking_core.specs.Writing.{fault_in};
+ghost use Rattle.blocking_core.specs.Writes.{fault_in};
 
 use crate::io::JobFault;
 use crate::job::PIECE;
@@ -66,7 +66,7 @@ pub struct WriteCore<E> {
 }
 
 impl<E> Model for WriteCore<E> {
-    ghost use Rattle.blocking_core.specs.Writing.{WriteMachine};
+    ghost use Rattle.blocking_core.specs.Writes.{WriteMachine};
 
     ghost Value = { WriteMachine E };
 
@@ -84,7 +84,7 @@ impl<E> Model for WriteCore<E> {
 }
 
 impl<E: Copy> WriteCore<E> {
-    ghost use Rattle.blocking_core.specs.Writing.{new_write, noting, write_by, write_next, write_after};
+    ghost use Rattle.blocking_core.specs.Writes.{new_write, noting, write_by, write_next, write_after};
 
     /// The core of a job that hasn't begun.
     pub fn new() -> Self

@@ -2,7 +2,7 @@
 use Rattle.std.proofs.Common.{◌≡◌, ℕ, ◌<◌, List, [], ◌∷◌, length, Bool, true, false, refl, sym, ap, ◌∙◌, subst, arith, Option, Some, None, if◌then◌else◌, ◌||◌, ◌&&◌, not, is_none, is_some}
 use Rattle.std.proofs.lemmas.Bool.Decides.{nat_tests}
 use Rattle.blocking_world_holders.proofs.Types.{Fault, ItemAction, OpAction, ReadAction, SeekAction, WriteAction, OwnerAction, Reply, Act, Event, Told, HandleCall, SessionJob, OwnerNext, NextActs as Acts, Rests, OwnerStage}
-use Rattle.blocking_world_holders.proofs.Words.{item_next, operation_next, OwnerMachine, owner_next, read_next, seek_next, Abandoned, Content, GivenUp, write_next, is_in, Consume, JobAction, Kind, Operating, PutPiece, Reading, Seeking, Streaming, Writing, fault, has_finished, has_given_up, has_result, is_asking, is_over, next_but_wake, number, accepted, got, kind_in, acts_of, own, is_again, seen_is_closed, is_for_closed, seen_is_into_inner, seen_is_pending_operation, is_poll_over, seen_is_shut, jobs_of, kind_of_job, seen_last_session, seen_may_ask, seen_rests, seen_session, under_way, seen_was_asked_inner, OperationAs, OperationProgress, operation_action_as, operation_action_of, Flows, HoldsResult, LastAs, OwnerAs, SlotAs, has_found, is_told, state_as, Owner, awaited_as, awaits_operation, close_did, did, did_in, drain_did, fill_did, fill_did_in, find_did, item_in, look_did, looked_as, may_ask, may_ask_at, next_at, next_by, next_of, next_to_say, operate_as, operate_in, read_as, read_in, receive_did, reply_as, reply_did, rests, seek_as, seek_in, stream_as, stream_in, worked, worked_by, write_as, write_in, OfBytes, OfItems, is_piped, ReadProgress, ReadAs, read_action_as, read_action_of, SeekProgress, SeekAs, seek_action_as, seek_action_of, JobAs, action_of, kind_of, Session, drained, filled, fits_in, found_put, goods_of, holds, operation_works, reach, received, session_after_find, session_after_look, streamer_works, work_at_put, work_by, work_of_consume, writer_works, ItemAs, ItemProgress, item_action_as, item_action_of, WriteProgress, WriteAs, write_action_as, write_action_of}
+use Rattle.blocking_world_holders.proofs.Words.{item_next, operation_next, OwnerMachine, owner_next, read_next, seek_next, Abandoned, Content, GivenUp, write_next, is_in, Consume, JobAction, Kind, Operating, PutPiece, Reading, Seeking, Streaming, Writing, fault, has_finished, has_given_up, has_result, is_asking, is_over, next_but_wake, number, accepted, got, kind_in, acts_of, own, is_again, seen_is_closed, is_for_closed, seen_is_into_inner, seen_is_pending_operation, is_poll_over, seen_is_shut, jobs_of, kind_of_job, seen_last_session, seen_may_ask, seen_rests, seen_session, under_way, seen_was_asked_inner, OperationAs, OpProgress, operation_action_as, operation_action_of, Flows, HoldsResult, LastAs, OwnerAs, SlotAs, has_found, is_told, state_as, Owner, awaited_as, awaits_operation, close_did, did, did_in, drain_did, fill_did, fill_did_in, find_did, item_in, look_did, looked_as, may_ask, may_ask_at, next_at, next_by, next_of, next_to_say, operate_as, operate_in, read_as, read_in, receive_did, reply_as, reply_did, rests, seek_as, seek_in, stream_as, stream_in, worked, worked_by, write_as, write_in, OfBytes, OfItems, is_piped, ReadProgress, ReadAs, read_action_as, read_action_of, SeekProgress, SeekAs, seek_action_as, seek_action_of, JobAs, action_of, kind_of, Session, drained, filled, fits_in, found_put, goods_of, holds, operation_works, reach, received, session_after_find, session_after_look, streamer_works, work_at_put, work_by, work_of_consume, writer_works, ItemAs, ItemProgress, item_action_as, item_action_of, WriteProgress, WriteAs, write_action_as, write_action_of}
 use Rattle.blocking_world_holders.proofs.Clashes.{nothing}
 use Rattle.blocking_world_holders.proofs.owners.Cuts.{kind_is}
 use Rattle.blocking_world_holders.proofs.owners.Goods.{piped_here, through_here}
@@ -11,10 +11,10 @@ use Rattle.blocking_world_holders.proofs.owners.OwnerActs.{owner_by_parts, bound
 use Rattle.blocking_world_holders.proofs.owners.States.{gone_is, is_lent, lent, lent_at, looks_lent, may_be_asked, open_lent, open_piped}
 use Rattle.blocking_world_holders.proofs.owners.Steps.{its_last}
 use Rattle.blocking_world_holders.proofs.owners.ReadJobs as read_job
-use Rattle.blocking_world_holders.proofs.owners.StreamJobs as stream_job
+use Rattle.blocking_world_holders.proofs.owners.ItemJobs as stream_job
 use Rattle.blocking_world_holders.proofs.owners.WriteJobs as write_job
 use Rattle.blocking_world_holders.proofs.owners.SeekJobs as seek_job
-use Rattle.blocking_world_holders.proofs.owners.OperationJobs as operation_job
+use Rattle.blocking_world_holders.proofs.owners.OpJobs as operation_job
 
 -- ---- its poll
 
@@ -303,7 +303,7 @@ seek_some owner cut n p t of r among asks over = by_next (seek_next p.core) refl
     by_next _ is asks over = absurd (cc)
 
 -- and one that runs an operation
-operate_some : (owner : Owner) (cut : List Event) (n : ℕ) (p : OperationProgress) → OwnerAs owner cut → kind_of_job n (own cut) ≡ Operating → OperationAs p (acts_of n cut) → is_in n (jobs_of (own cut)) ≡ true
+operate_some : (owner : Owner) (cut : List Event) (n : ℕ) (p : OpProgress) → OwnerAs owner cut → kind_of_job n (own cut) ≡ Operating → OperationAs p (acts_of n cut) → is_in n (jobs_of (own cut)) ≡ true
     → is_asking (operation_action_of p) ≡ false → is_over (operation_action_of p) ≡ false → is_some (worked (SessionJob.Operate p) owner) ≡ true
 operate_some owner cut n p t of r among asks over = by_next (operation_next p.core) refl asks over
   where

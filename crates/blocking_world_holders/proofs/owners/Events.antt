@@ -1,7 +1,7 @@
 -- What is seen of the steps of owners: acts that no pool decides, and a new job only where a session begins.
 use Rattle.std.proofs.Common.{◌≡◌, ℕ, List, [], ◌∷◌, length, Bool, true, false, refl, ap, subst, Option, Some, None, if◌then◌else◌}
 use Rattle.blocking_world_holders.proofs.Types.{Fault, ItemAction, OpAction, ReadAction, SeekAction, WriteAction, OwnerAction, Act, Told, HandleCall, SessionJob, OwnerStage}
-use Rattle.blocking_world_holders.proofs.Words.{item_next, operation_next, OwnerMachine, owner_next, Met, Served, read_next, seek_next, Abandoned, Content, GivenUp, write_next, JobNumber, accepted_by, seen_peek, seen_put, seen_room, is_nothing, is_of_pool, is_making, OperationProgress, Acts, Begins, Delivers, OwnerStep, DoesWork as Works, act_in, act_of, act_of_work, delivered, Did, Owner, Worked, awaited_as, did, did_by, did_in, drain_did, fill_did, fill_did_in, find_did, item_in, look_did, looked_as, note_at, operate_as, operate_in, read_as, read_in, receive_did, reply_as, reply_did, seek_as, seek_in, stream_as, stream_in, worked, worked_by, write_as, write_in, OfBytes, OfItems, through, ReadProgress, SeekProgress, Session, Work, drained, filled, fits_in, found_piece, found_put, found_room, found_send, holds, reach, received, session_after_find, session_after_look, streamer_works, work_at_put, work_by, work_of_consume, writer_works, ItemProgress, WriteProgress}
+use Rattle.blocking_world_holders.proofs.Words.{item_next, operation_next, OwnerMachine, owner_next, Met, Served, read_next, seek_next, Abandoned, Content, GivenUp, write_next, JobNumber, accepted_by, seen_peek, seen_put, seen_room, is_nothing, is_of_pool, is_making, OpProgress, Acts, Begins, Delivers, OwnerStep, DoesWork as Works, act_in, act_of, act_of_work, delivered, Did, Owner, Worked, awaited_as, did, did_by, did_in, drain_did, fill_did, fill_did_in, find_did, item_in, look_did, looked_as, note_at, operate_as, operate_in, read_as, read_in, receive_did, reply_as, reply_did, seek_as, seek_in, stream_as, stream_in, worked, worked_by, write_as, write_in, OfBytes, OfItems, through, ReadProgress, SeekProgress, Session, Work, drained, filled, fits_in, found_piece, found_put, found_room, found_send, holds, reach, received, session_after_find, session_after_look, streamer_works, work_at_put, work_by, work_of_consume, writer_works, ItemProgress, WriteProgress}
 use Rattle.blocking_world_holders.proofs.owners.Goods.{piped_some, through_some}
 use Rattle.blocking_world_holders.proofs.owners.OwnerActs.{value_of}
 
@@ -148,13 +148,13 @@ plain_seek : (a : SeekAction) (p : SeekProgress) (owner : Owner) (done : Worked)
 plain_seek SeekAction.Deliver p owner done e = moved (λ (d : Worked). IsPlain [] d.act) _ done e (record { pool = refl; nothing = refl; made = refl; new = refl })
 plain_seek a p owner done e = plain_sought a owner.session p owner done e
 
-plain_operated : (a : OpAction) (last : Option Session) (p : OperationProgress) (owner : Owner) (done : Worked) → operate_in a last p owner ≡ Some done → IsPlain [] done.act
+plain_operated : (a : OpAction) (last : Option Session) (p : OpProgress) (owner : Owner) (done : Worked) → operate_in a last p owner ≡ Some done → IsPlain [] done.act
 plain_operated a None p owner done e = absurd (cc)
 plain_operated OpAction.PutResult (Some s) p owner done e = moved (λ (d : Worked). IsPlain [] d.act) _ done e (record { pool = refl; nothing = refl; made = refl; new = refl })
 plain_operated OpAction.Finish (Some s) p owner done e = moved (λ (d : Worked). IsPlain [] d.act) _ done e (record { pool = refl; nothing = refl; made = refl; new = refl })
 plain_operated _ (Some s) p owner done e = absurd (cc)
 
-plain_operate : (a : OpAction) (p : OperationProgress) (owner : Owner) (done : Worked) → operate_as a p owner ≡ Some done → IsPlain [] done.act
+plain_operate : (a : OpAction) (p : OpProgress) (owner : Owner) (done : Worked) → operate_as a p owner ≡ Some done → IsPlain [] done.act
 plain_operate OpAction.Deliver p owner done e = moved (λ (d : Worked). IsPlain [] d.act) _ done e (record { pool = refl; nothing = refl; made = refl; new = refl })
 plain_operate a p owner done e = plain_operated a owner.session p owner done e
 

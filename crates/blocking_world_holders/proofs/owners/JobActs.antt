@@ -3,7 +3,7 @@ use Rattle.std.proofs.Common.{◌≡◌, ℕ, suc, zero, ◌==◌, List, [], ◌
 use Rattle.std.proofs.lemmas.Bool.{or_left, or_right}
 use Rattle.std.proofs.lemmas.Bool.Decides.{nat_tests}
 use Rattle.blocking_world_holders.proofs.Types.{Fault, HolderWaker, ItemAction, OpAction, ReadAction, SeekAction, WriteAction, Act, Answered, Drained, Finished, GaveUp, JobClosed, JobParked, Lost, Peeked, Put, ResultPut, RoomFree, RoomShut, TakenOut, Event, Answer, HandleCall, OwnerStage}
-use Rattle.blocking_world_holders.proofs.Words.{item_next, operation_next, Pipe, room, Closed, Met, Served, Waiting, find_room, hand_in, peek, read_next, seek_next, Slot, after_put, answer_of, slot_after, slot_without_job, waker_out_of, write_next, Growth, JobNumber, is_in, EndsTruly, back_by, came_back, AskBytes, AskCall, AskFlush, AskItem, AskResult, AskSeek, CloseEnd, Consume, FindRoom, Finish, JobAction, Kind, OfferBytes, Operating, Peek, PutPiece, PutResult, Reading, Seeking, SendItem, Streaming, Writing, fault, has_finished, has_given_up, has_result, is_answer, is_over, is_taken, job_next_after_answer, next_but_wake, next_of_job, number, piece, takes_waker, job_wake_first, JobActs, Works, is_job_seated, job_seated_by, pipe_seat, pipe_seated_by, place_of, result_seat, result_seated_by, slot_seat, slot_seated_by, next_of_owner, owner_next_but_wake, accepted, got, inside, is_serial, room_in, seated, seen_peek, seen_put, seen_room, waker_in, acts_of, is_nothing, is_of_pool, own, SeenSession, seen_call, seen_is_dropped, seen_is_shut, jobs_of, kind_of_job, seen_last_session, seen_session, seen_state, was_woken, OperationAs, OperationProgress, operation_action_as, operation_action_of, by_its_job, IsAtEnd, OwnerAs, PlaceAs, PlaceBy, ResultAs, SessionAs, StageBy, has_found, is_seated, newest_note, ReadProgress as Progress, ReadAs, read_action_as as action_as, read_action_of as action_of, SeekProgress, SeekAs, seek_action_as, seek_action_of, Session, Work, finish_wakes, fits_in, found_piece, found_put, found_room, found_send, give_up_wakes, operation_finishes, operation_puts, result_wakes, seek_finishes, session_after_give_up, session_after_job_close, streamer_closes, streamer_finishes, work_at_peek, work_at_put, work_at_room, work_at_send, work_of_close, work_of_consume, work_of_finish, writer_closes, writer_finishes, ItemAs, ItemProgress, item_action_as, item_action_of, WriteProgress, WriteAs, write_action_as, write_action_of, write_fault_of}
+use Rattle.blocking_world_holders.proofs.Words.{item_next, operation_next, Pipe, room, Closed, Met, Served, Waiting, find_room, hand_in, peek, read_next, seek_next, Slot, after_put, answer_of, slot_after, slot_without_job, waker_out_of, write_next, Growth, JobNumber, is_in, EndsTruly, back_by, came_back, AskBytes, AskCall, AskFlush, AskItem, AskResult, AskSeek, CloseEnd, Consume, FindRoom, Finish, JobAction, Kind, OfferBytes, Operating, Peek, PutPiece, PutResult, Reading, Seeking, SendItem, Streaming, Writing, fault, has_finished, has_given_up, has_result, is_answer, is_over, is_taken, job_next_after_answer, next_but_wake, next_of_job, number, piece, takes_waker, job_wake_first, JobActs, Works, is_job_seated, job_seated_by, pipe_seat, pipe_seated_by, place_of, result_seat, result_seated_by, slot_seat, slot_seated_by, next_of_owner, owner_next_but_wake, accepted, got, inside, is_serial, room_in, seated, seen_peek, seen_put, seen_room, waker_in, acts_of, is_nothing, is_of_pool, own, SeenSession, seen_call, seen_is_dropped, seen_is_shut, jobs_of, kind_of_job, seen_last_session, seen_session, seen_state, was_woken, OperationAs, OpProgress, operation_action_as, operation_action_of, by_its_job, IsAtEnd, OwnerAs, PlaceAs, PlaceBy, ResultAs, SessionAs, StageBy, has_found, is_seated, newest_note, ReadProgress as Progress, ReadAs, read_action_as as action_as, read_action_of as action_of, SeekProgress, SeekAs, seek_action_as, seek_action_of, Session, Work, finish_wakes, fits_in, found_piece, found_put, found_room, found_send, give_up_wakes, operation_finishes, operation_puts, result_wakes, seek_finishes, session_after_give_up, session_after_job_close, streamer_closes, streamer_finishes, work_at_peek, work_at_put, work_at_room, work_at_send, work_of_close, work_of_consume, work_of_finish, writer_closes, writer_finishes, ItemAs, ItemProgress, item_action_as, item_action_of, WriteProgress, WriteAs, write_action_as, write_action_of, write_fault_of}
 use Rattle.blocking_world_laws.specs.OwnerTable as law
 use Rattle.blocking_world_holders.proofs.owners.Jobs.{no_wait}
 use Rattle.blocking_world_holders.proofs.owners.Cuts.{its_kind, kind_is, inside_is, next_stays, room_is, open_is}
@@ -11,15 +11,15 @@ use Rattle.blocking_world_holders.proofs.owners.OwnerActs.{Goes, owner_by_parts,
 use Rattle.blocking_world_holders.proofs.owners.ReadJobs.{next_by, action_is, awake, asks}
 use Rattle.blocking_world_holders.proofs.owners.ReadSessions.{At, at, finds, finds_shut, parks, puts, loses, closes, finishes, gives_up, going, some_room, put_is}
 use Rattle.blocking_world_holders.proofs.owners.WriteSessions.{peeks, peek_parks, drains, consumes, writer_answers}
-use Rattle.blocking_world_holders.proofs.owners.StreamSessions.{item_answers, send_loses, send_parks, sends}
+use Rattle.blocking_world_holders.proofs.owners.ItemSessions.{item_answers, send_loses, send_parks, sends}
 use Rattle.blocking_world_holders.proofs.owners.SeekSessions.{seek_answers, seek_puts}
-use Rattle.blocking_world_holders.proofs.owners.OperationSessions.{operation_answers, result_puts}
+use Rattle.blocking_world_holders.proofs.owners.OpSessions.{operation_answers, result_puts}
 use Rattle.blocking_world_holders.proofs.owners.Results.{is_operating}
 use Rattle.blocking_world_holders.proofs.owners.ReadSessions as Sessions
 use Rattle.blocking_world_holders.proofs.owners.WriteJobs as of_writer
-use Rattle.blocking_world_holders.proofs.owners.StreamJobs as of_streamer
+use Rattle.blocking_world_holders.proofs.owners.ItemJobs as of_streamer
 use Rattle.blocking_world_holders.proofs.owners.SeekJobs as of_seeker
-use Rattle.blocking_world_holders.proofs.owners.OperationJobs as of_operator
+use Rattle.blocking_world_holders.proofs.owners.OpJobs as of_operator
 use Rattle.blocking_world_holders.proofs.owners.Results as results
 
 -- ---- seats that acts empty
@@ -518,10 +518,10 @@ module _ (bytes client : ℕ) (asked : Option HandleCall) (here : OwnerStage) (s
 
   -- ---- the acts of a job that runs an operation, at the session
 
-  abbrev Operates : Work OperationProgress → Type 0
-  Operates work = WorksOn OperationProgress work
+  abbrev Operates : Work OpProgress → Type 0
+  Operates work = WorksOn OpProgress work
 
-  module _ (p : OperationProgress) (r : OperationAs p acts) (operating : kind ≡ Operating) (among : is_in s.number.serial (jobs_of (own cut)) ≡ true) where
+  module _ (p : OpProgress) (r : OperationAs p acts) (operating : kind ≡ Operating) (among : is_in s.number.serial (jobs_of (own cut)) ≡ true) where
     -- the place of the result, by the job's next action
     placed : (next : JobAction) → next_but_wake Operating acts ≡ next → PlaceAs s.result Operating next (has_given_up acts) (has_result acts) came (number acts) rs
     placed next e =

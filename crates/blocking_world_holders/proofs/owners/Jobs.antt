@@ -1,16 +1,16 @@
 -- How far a job is after what it does next by itself: it meets its owner, or calls the waker that it took.
 use Rattle.std.proofs.Common.{◌≡◌, ◌<◌, ◌≤◌, ℕ, zero, suc, List, [], ◌∷◌, length, Bool, true, false, refl, sym, ap, ◌∙◌, subst, arith, Option, Some, None, if◌then◌else◌, nat_le, min, take, is_some, length-take}
 use Rattle.blocking_world_holders.proofs.Types.{ItemAction, ItemAnswer, OpAction, OpAnswer, ReadAction, ReadAnswer, SeekAction, SeekAnswer, WriteAction, WriteAnswer, Act, Drained, Finished, JobClosed, JobParked, Lost, Put, ResultPut, RoomFree, RoomShut, TakenOut, SessionJob}
-use Rattle.blocking_world_holders.proofs.Words.{item_next, operation_next, room, Closed, Met, Served, Waiting, hand_in, read_next, seek_next, write_next, is_taken, piece, waker_in, OperationAs, OperationProgress, Owner, Worked, operate_as, operate_in, read_as, read_in, seek_as, seek_in, stream_as, stream_in, worked, worked_by, write_as, write_in, OfBytes, OfItems, through, ReadProgress, ReadAs, read_action_as, SeekProgress, SeekAs, JobAs, Session, Work, closing_wakes, finish_wakes, fits_in, found_piece, found_put, found_room, found_send, holds, operation_works, result_wakes, seek_works, streamer_closes, streamer_finishes, streamer_works, work_at_peek, work_at_put, work_at_room, work_at_send, work_by, work_of_close, work_of_consume, work_of_finish, writer_closes, writer_finishes, writer_works, ItemAs, ItemProgress, item_action_as, WriteProgress, WriteAs, write_action_as, write_fault_of}
+use Rattle.blocking_world_holders.proofs.Words.{item_next, operation_next, room, Closed, Met, Served, Waiting, hand_in, read_next, seek_next, write_next, is_taken, piece, waker_in, OperationAs, OpProgress, Owner, Worked, operate_as, operate_in, read_as, read_in, seek_as, seek_in, stream_as, stream_in, worked, worked_by, write_as, write_in, OfBytes, OfItems, through, ReadProgress, ReadAs, read_action_as, SeekProgress, SeekAs, JobAs, Session, Work, closing_wakes, finish_wakes, fits_in, found_piece, found_put, found_room, found_send, holds, operation_works, result_wakes, seek_works, streamer_closes, streamer_finishes, streamer_works, work_at_peek, work_at_put, work_at_room, work_at_send, work_by, work_of_close, work_of_consume, work_of_finish, writer_closes, writer_finishes, writer_works, ItemAs, ItemProgress, item_action_as, WriteProgress, WriteAs, write_action_as, write_fault_of}
 use Rattle.blocking_world_holders.proofs.owners.Goods.{through_some}
 use Rattle.blocking_world_holders.proofs.owners.OwnerActs.{value_of}
 use Rattle.blocking_world_holders.proofs.owners.ReadSessions.{some_room}
 use Rattle.blocking_world_holders.proofs.owners.WriteSessions.{some_piece}
 use Rattle.blocking_world_holders.proofs.owners.ReadJobs as of_reader
-use Rattle.blocking_world_holders.proofs.owners.StreamJobs as of_streamer
+use Rattle.blocking_world_holders.proofs.owners.ItemJobs as of_streamer
 use Rattle.blocking_world_holders.proofs.owners.WriteJobs as of_writer
 use Rattle.blocking_world_holders.proofs.owners.SeekJobs as of_seeker
-use Rattle.blocking_world_holders.proofs.owners.OperationJobs as of_operator
+use Rattle.blocking_world_holders.proofs.owners.OpJobs as of_operator
 
 -- what a job takes of wakers is what is seen
 taken_is : (b : Bool) → b ≡ is_taken (waker_in b)
@@ -148,15 +148,15 @@ seeks_on p acts s r _ is work does = absurd (cc)
 -- ---- a job that runs an operation, at its session
 
 -- what it does next there
-operates_on : (p : OperationProgress) (acts : List Act) (s : Session) → OperationAs p acts → (a : OpAction) → operation_next p.core ≡ a → (work : Work OperationProgress) → operation_works a p s ≡ Some work
+operates_on : (p : OpProgress) (acts : List Act) (s : Session) → OperationAs p acts → (a : OpAction) → operation_next p.core ≡ a → (work : Work OpProgress) → operation_works a p s ≡ Some work
     → OperationAs work.job (work.act ∷ acts)
 operates_on p acts s r OpAction.PutResult is work does =
     let woke = result_wakes p.number s in
-    subst (λ (w : Work OperationProgress). OperationAs w.job (w.act ∷ acts)) (ap (value_of work) does)
+    subst (λ (w : Work OpProgress). OperationAs w.job (w.act ∷ acts)) (ap (value_of work) does)
     (of_operator.meets p acts OpAction.PutResult OpAction.Finish woke (OpAnswer.ResultPut woke) (ResultPut (waker_in woke)) r (of_operator.awake p OpAction.PutResult is (λ e. cc)) refl refl (taken_is woke) refl refl)
 operates_on p acts s r OpAction.Finish is work does =
     let woke = finish_wakes None s in
-    subst (λ (w : Work OperationProgress). OperationAs w.job (w.act ∷ acts)) (ap (value_of work) does)
+    subst (λ (w : Work OpProgress). OperationAs w.job (w.act ∷ acts)) (ap (value_of work) does)
     (of_operator.meets p acts OpAction.Finish OpAction.Done woke (OpAnswer.Finished woke) (Finished (waker_in woke)) r (of_operator.awake p OpAction.Finish is (λ e. cc)) refl refl (taken_is woke) refl refl)
 operates_on p acts s r _ is work does = absurd (cc)
 
@@ -189,10 +189,10 @@ seek_goes : (p : SeekProgress) (acts : List Act) (last : Option Session) (owner 
 seek_goes p acts None owner r a is done does = absurd (cc)
 seek_goes p acts (Some s) owner r a is done does = at_work SeekProgress SessionJob.Seek acts owner (seek_works a p s) (λ work e. seeks_on p acts s r a is work e) done does
 
-operate_goes : (p : OperationProgress) (acts : List Act) (last : Option Session) (owner : Owner) → OperationAs p acts → (a : OpAction) → operation_next p.core ≡ a
+operate_goes : (p : OpProgress) (acts : List Act) (last : Option Session) (owner : Owner) → OperationAs p acts → (a : OpAction) → operation_next p.core ≡ a
     → (done : Worked) → operate_in a last p owner ≡ Some done → JobAs done.job (done.act ∷ acts)
 operate_goes p acts None owner r a is done does = absurd (cc)
-operate_goes p acts (Some s) owner r a is done does = at_work OperationProgress SessionJob.Operate acts owner (operation_works a p s) (λ work e. operates_on p acts s r a is work e) done does
+operate_goes p acts (Some s) owner r a is done does = at_work OpProgress SessionJob.Operate acts owner (operation_works a p s) (λ work e. operates_on p acts s r a is work e) done does
 
 -- how far it is after what it does next by itself
 pub worked_on : (p : SessionJob) (acts : List Act) (owner : Owner) (done : Worked) → JobAs p acts → worked p owner ≡ Some done → JobAs done.job (done.act ∷ acts)

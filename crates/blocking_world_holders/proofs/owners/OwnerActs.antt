@@ -11,7 +11,7 @@ use Rattle.blocking_world_holders.proofs.owners.Cuts.{not_not, next_with, inside
 use Rattle.blocking_world_holders.proofs.owners.Fills.{fills, fill_waits, filled_some, filled_note, fill_act, fill_seen}
 use Rattle.blocking_world_holders.proofs.owners.Drains.{shuts, takes, waits, returns, waits_for_it, front, at_end, reached, first_item, no_more_items, receives, waits_for_item}
 use Rattle.blocking_world_holders.proofs.owners.Goods.{through_some, piped_some}
-use Rattle.blocking_world_holders.proofs.owners.OperationSessions.{kept_with}
+use Rattle.blocking_world_holders.proofs.owners.OpSessions.{kept_with}
 use Rattle.blocking_world_holders.proofs.owners.Results.{taken as result_taken, waits as result_waits}
 use Rattle.blocking_world_holders.proofs.owners.States.{is_away, gone_is, lent_at, lent_by, piped_is}
 

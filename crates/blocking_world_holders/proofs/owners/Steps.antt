@@ -2,7 +2,7 @@
 use Rattle.std.proofs.Common.{◌≡◌, ℕ, ◌==◌, List, [], ◌∷◌, Bool, true, false, refl, sym, ap, ◌∙◌, subst, arith, Option, Some, None, ◌&&◌, ◌||◌, not, if◌then◌else◌, is_none}
 use Rattle.std.proofs.lemmas.Bool.Decides.{nat_tests}
 use Rattle.blocking_world_holders.proofs.Types.{ItemAction, OpAction, ReadAction, SeekAction, WriteAction, OwnerAction, Act, Answered, GaveUp, HolderWoken, Event, Told, Answer, HandleCall, SessionJob, OwnerNext, OwnerStage}
-use Rattle.blocking_world_holders.proofs.Words.{item_next, operation_next, OwnerMachine, read_next, seek_next, write_next, Growth, is_in, came_back, JobAction, Kind, Operating, Reading, Seeking, Streaming, WakeHolder, Writing, fault, is_answer, is_over, next_but_wake, next_of_job, number, OwnerLaw, Works, is_job_seated, pipe_seat, result_seat, slot_seat, accepted, got, is_serial, kind_in, waker_in, acts_of, own, seen_call, is_again, seen_is_dropped, seen_is_into_inner, is_operation, seen_is_shut, jobs_of, kind_of_job, seen_last_session, seen_session, seen_state, OperationAs, OperationProgress, operation_action_as, Acts, Begins, CallsWaker, Delivers, GivesUp, IsAnswered, IsAsked, IsDropped, IsRefused, MayTake, OwnerStep, DoesWork, act_in, act_of, act_of_work, by_its_job, by_owner, event_by, is_of_its_job, owner_after_step as owner_after, owner_after_work, owner_in_step as owner_in, LastAs, OwnerAs, PlaceBy, PlaceIn, SessionAs, StageBy, has_found, newest_note, Did, Owner, Worked, capacity_of, did, giving_up_wakes, is_gone, is_pending, item_in, may_call_at, next_at, next_by, next_to_say, operate_as, operate_in, read_as, read_in, reply_as, seek_as, seek_in, stream_as, stream_in, without_job, worked, worked_by, write_as, write_in, OfBytes, OfItems, through, ReadProgress, ReadAs, read_action_as, SeekProgress, SeekAs, seek_action_as, JobAs, action_of, kind_of, Session, Work, fits_in, found_piece, found_put, found_room, found_send, holds, operation_works, seek_works, streamer_works, work_at_put, work_by, work_of_consume, writer_works, ItemAs, ItemProgress, item_action_as, WriteProgress, WriteAs, write_action_as}
+use Rattle.blocking_world_holders.proofs.Words.{item_next, operation_next, OwnerMachine, read_next, seek_next, write_next, Growth, is_in, came_back, JobAction, Kind, Operating, Reading, Seeking, Streaming, WakeHolder, Writing, fault, is_answer, is_over, next_but_wake, next_of_job, number, OwnerLaw, Works, is_job_seated, pipe_seat, result_seat, slot_seat, accepted, got, is_serial, kind_in, waker_in, acts_of, own, seen_call, is_again, seen_is_dropped, seen_is_into_inner, is_operation, seen_is_shut, jobs_of, kind_of_job, seen_last_session, seen_session, seen_state, OperationAs, OpProgress, operation_action_as, Acts, Begins, CallsWaker, Delivers, GivesUp, IsAnswered, IsAsked, IsDropped, IsRefused, MayTake, OwnerStep, DoesWork, act_in, act_of, act_of_work, by_its_job, by_owner, event_by, is_of_its_job, owner_after_step as owner_after, owner_after_work, owner_in_step as owner_in, LastAs, OwnerAs, PlaceBy, PlaceIn, SessionAs, StageBy, has_found, newest_note, Did, Owner, Worked, capacity_of, did, giving_up_wakes, is_gone, is_pending, item_in, may_call_at, next_at, next_by, next_to_say, operate_as, operate_in, read_as, read_in, reply_as, seek_as, seek_in, stream_as, stream_in, without_job, worked, worked_by, write_as, write_in, OfBytes, OfItems, through, ReadProgress, ReadAs, read_action_as, SeekProgress, SeekAs, seek_action_as, JobAs, action_of, kind_of, Session, Work, fits_in, found_piece, found_put, found_room, found_send, holds, operation_works, seek_works, streamer_works, work_at_put, work_by, work_of_consume, writer_works, ItemAs, ItemProgress, item_action_as, WriteProgress, WriteAs, write_action_as}
 use Rattle.blocking_world_laws.specs.OwnerTable as law
 use Rattle.blocking_world_holders.proofs.Clashes.{nothing}
 use Rattle.blocking_world_holders.proofs.owners.Goods.{through_some, through_none}
@@ -13,10 +13,10 @@ use Rattle.blocking_world_holders.proofs.owners.OwnerActs.{Goes, owner_by_parts,
 use Rattle.blocking_world_holders.proofs.owners.PoolAnswers.{ask_goes, drop_goes, refuse_goes, deliver_goes, begin_goes}
 use Rattle.blocking_world_holders.proofs.owners.ReadSessions.{calls}
 use Rattle.blocking_world_holders.proofs.owners.ReadJobs as of_reader
-use Rattle.blocking_world_holders.proofs.owners.StreamJobs as of_streamer
+use Rattle.blocking_world_holders.proofs.owners.ItemJobs as of_streamer
 use Rattle.blocking_world_holders.proofs.owners.WriteJobs as of_writer
 use Rattle.blocking_world_holders.proofs.owners.SeekJobs as of_seeker
-use Rattle.blocking_world_holders.proofs.owners.OperationJobs as of_operator
+use Rattle.blocking_world_holders.proofs.owners.OpJobs as of_operator
 
 -- ---- a waker is called
 
@@ -197,11 +197,11 @@ module _ (bytes client : ℕ) (asked : Option HandleCall) (here : OwnerStage) (h
   seeker_at s t p r of among _ is work does = absurd (nothing does)
 
   -- a job that runs an operation, at the session
-  operator_at : (s : Session) (t : OwnerAs (owner_by_parts bytes client asked here (Some s)) cut) (p : OperationProgress) (r : OperationAs p (acts_of s.number.serial cut)) → its_kind s (bound bytes) cut t.last ≡ Operating
-      → is_in s.number.serial (jobs_of (own cut)) ≡ true → (a : OpAction) → operation_next p.core ≡ a → (work : Work OperationProgress) → operation_works a p s ≡ Some work
-      → WorksOn bytes client asked here s h v first growth cut t OperationProgress work
-  operator_at s t p r of among OpAction.PutResult is work does = as_done s t OperationProgress (result_works bytes client asked here s h v first growth cut t p r of among is) work does
-  operator_at s t p r of among OpAction.Finish is work does = as_done s t OperationProgress (operation_finish_works bytes client asked here s h v first growth cut t p r of among is) work does
+  operator_at : (s : Session) (t : OwnerAs (owner_by_parts bytes client asked here (Some s)) cut) (p : OpProgress) (r : OperationAs p (acts_of s.number.serial cut)) → its_kind s (bound bytes) cut t.last ≡ Operating
+      → is_in s.number.serial (jobs_of (own cut)) ≡ true → (a : OpAction) → operation_next p.core ≡ a → (work : Work OpProgress) → operation_works a p s ≡ Some work
+      → WorksOn bytes client asked here s h v first growth cut t OpProgress work
+  operator_at s t p r of among OpAction.PutResult is work does = as_done s t OpProgress (result_works bytes client asked here s h v first growth cut t p r of among is) work does
+  operator_at s t p r of among OpAction.Finish is work does = as_done s t OpProgress (operation_finish_works bytes client asked here s h v first growth cut t p r of among is) work does
   operator_at s t p r of among _ is work does = absurd (nothing does)
 
   -- any act of a job that reads
@@ -286,13 +286,13 @@ module _ (bytes client : ℕ) (asked : Option HandleCall) (here : OwnerStage) (h
       by a is does = there a is (λ e. cc) refl does
 
   -- any act of a job that runs an operation
-  operate_goes : (last : Option Session) (n : ℕ) → OwnerAs (owner_by_parts bytes client asked here last) cut → (p : OperationProgress) → OperationAs p (acts_of n cut) → kind_of_job n (own cut) ≡ Operating
+  operate_goes : (last : Option Session) (n : ℕ) → OwnerAs (owner_by_parts bytes client asked here last) cut → (p : OpProgress) → OperationAs p (acts_of n cut) → kind_of_job n (own cut) ≡ Operating
       → is_in n (jobs_of (own cut)) ≡ true → (a : OpAction) → operation_next p.core ≡ a → (done : Worked) → operate_as a p (owner_by_parts bytes client asked here last) ≡ Some done → WorkGoes n done
   operate_goes last n t p r of among a is done does = by a is does
     where
       there : (a : OpAction) → operation_next p.core ≡ a → (a ≡ OpAction.Deliver → ⊥) → is_over (operation_action_as a) ≡ false → operate_in a last p (owner_by_parts bytes client asked here last) ≡ Some done → WorkGoes n done
       there a is other goes does =
-          at_session OperationProgress SessionJob.Operate Operating (operation_action_as a) last n t among of (sym r.next ∙ ap operation_action_as (of_operator.awake p a is other).next_is) goes
+          at_session OpProgress SessionJob.Operate Operating (operation_action_as a) last n t among of (sym r.next ∙ ap operation_action_as (of_operator.awake p a is other).next_is) goes
           (λ s. operation_works a p s) (λ o. operate_in a o p (owner_by_parts bytes client asked here o)) (λ s. refl)
           (λ s same tied kind its work e. operator_at s tied p (subst (λ m. OperationAs p (acts_of m cut)) same r) kind its a is work e) done does
 
@@ -301,8 +301,8 @@ module _ (bytes client : ℕ) (asked : Option HandleCall) (here : OwnerStage) (h
           subst (WorkGoes n) (ap (value_of done) does)
           (wake_goes bytes client asked here last h v n first growth cut t among
           (ap (λ k. next_of_job k (acts_of n cut)) of ∙ sym (of_operator.action_is p (acts_of n cut) r) ∙ ap operation_action_as is))
-      by OpAction.Call is does = nothing_done OperationProgress SessionJob.Operate last (λ s. operation_works OpAction.Call p s) (λ o. operate_in OpAction.Call o p (owner_by_parts bytes client asked here o)) refl (λ s. refl) (λ s. refl) n done does
-      by OpAction.Done is does = nothing_done OperationProgress SessionJob.Operate last (λ s. operation_works OpAction.Done p s) (λ o. operate_in OpAction.Done o p (owner_by_parts bytes client asked here o)) refl (λ s. refl) (λ s. refl) n done does
+      by OpAction.Call is does = nothing_done OpProgress SessionJob.Operate last (λ s. operation_works OpAction.Call p s) (λ o. operate_in OpAction.Call o p (owner_by_parts bytes client asked here o)) refl (λ s. refl) (λ s. refl) n done does
+      by OpAction.Done is does = nothing_done OpProgress SessionJob.Operate last (λ s. operation_works OpAction.Done p s) (λ o. operate_in OpAction.Done o p (owner_by_parts bytes client asked here o)) refl (λ s. refl) (λ s. refl) n done does
       by a is does = there a is (λ e. cc) refl does
 
   -- any act of its own

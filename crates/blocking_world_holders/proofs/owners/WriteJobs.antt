@@ -3,7 +3,7 @@ use Rattle.std.proofs.Common.{◌≡◌, ℕ, zero, suc, ◌≤◌, List, [], �
 use Rattle.std.proofs.lemmas.Bool.Decides.{nat_tests}
 use Rattle.blocking_world_holders.proofs.Types.{JobFault, WriteAction, WriteAnswer, Act, Answered, HolderWoken, Peeked, Answer, Failed, Fine, Number}
 use Rattle.blocking_world_holders.proofs.Words.{machine, wake_first, WriteMachine, first_fault, noting, write_after, write_by, core_write_in as write_in, write_next, Writing, job_earlier, fault, fault_in, is_answer, job_next_after_answer as next_after_answer, next_but_wake, next_of_job, takes_waker, job_wake_first, has_waker, IsOffered, WriteProgress as Progress, WriteAs, write_action_as as action_as, write_action_of as action_of, write_fault_of as fault_of, write_progress_after_answer as progress_after_answer, progress_after_piece, write_progress_with as progress_with, told_as}
-use Rattle.blocking_core.specs.Writing as core
+use Rattle.blocking_core.specs.Writes as core
 use Rattle.blocking_world_holders.proofs.owners.ReadJobs.{awake_by}
 
 -- ---- what it does next

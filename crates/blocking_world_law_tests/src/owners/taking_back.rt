@@ -8,7 +8,7 @@ ghost use Rattle.blocking_world_laws.specs.Traces.{◌▸◌, moment, Refuses};
 ghost use Rattle.blocking_world_laws.specs.OwnerTraces.{asks, polls, drops, FirstOwnerLaw, KeepsFirstOwner};
 ghost use Rattle.blocking_world_laws.specs.OwnerTraces.{one_made, end_read, failed_done};
 ghost use Rattle.blocking_world_laws.specs.WriteTraces.{writer_closed};
-ghost use Rattle.blocking_world_laws.specs.OperationTraces.{inner_asked, inner_waits, inner_back, inner_replied, operation_taken};
+ghost use Rattle.blocking_world_laws.specs.OpTraces.{inner_asked, inner_waits, inner_back, inner_replied, operation_taken};
 ghost use Rattle.blocking_world_laws.specs.declared.event.Act.TheVariants.{OwnerClosed, JobCancelled, HolderDropped, Back, Replied, Waits, NoAction};
 ghost use Rattle.blocking_world_laws.specs.declared.event.Party.TheVariants.{Owner, Pool};
 ghost use Rattle.blocking_world_laws.specs.declared.event.Reply.TheVariants.{Handle};

@@ -9,7 +9,7 @@ ghost use Rattle.blocking_world_laws.specs.Legal.{Legal};
 ghost use Rattle.blocking_world_laws.specs.Traces.{◌▸◌, moment};
 ghost use Rattle.blocking_world_laws.specs.OwnerTraces.{polls, takes, works, ends};
 ghost use Rattle.blocking_world_laws.specs.OwnerTraces.{reader_parked, reader_dropped, end_read, stop_back};
-ghost use Rattle.blocking_world_laws.specs.OperationTraces.{operation_over, inner_replied};
+ghost use Rattle.blocking_world_laws.specs.OpTraces.{operation_over, inner_replied};
 ghost use Rattle.blocking_pool.specs.declared.pool.answer.Woke.TheVariants.{Entered};
 ghost use Rattle.blocking_pool.specs.declared.pool.standing.Standing.TheVariants.{Dropped};
 ghost use Rattle.blocking_world_laws.specs.declared.event.Act.TheVariants.{JobCancelled, Replied, TookDropped, Ended, GaveUp};

@@ -54,9 +54,9 @@ ghost use Rattle.blocking_world_laws.specs.JobTable.{Streaming, AskItem, SendIte
 ghost use Rattle.blocking_world_laws.specs.OwnerSeats.{result_seat};
 ghost use Rattle.blocking_world_laws.specs.Sessions.{capacity};
 ghost use Rattle.blocking_world_laws.specs.OwnerTraces.{drops, FirstOwnerPasses};
-ghost use Rattle.blocking_world_laws.specs.StreamTraces.{item_asked, stream_taken, first_given, second_waits, first_asked, first_got, second_asked, stream_back};
+ghost use Rattle.blocking_world_laws.specs.ItemTraces.{item_asked, stream_taken, first_given, second_waits, first_asked, first_got, second_asked, stream_back};
 ghost use Rattle.blocking_world_laws.specs.SeekTraces.{old_seek_taken, then_sought, old_sought, other_asked, seek_failed};
-ghost use Rattle.blocking_world_laws.specs.OperationTraces.{operation_begun, operation_taken, nine_put, older_asked, stop_for_operation, then_stopped, inner_asked, inner_waits, inner_replied};
+ghost use Rattle.blocking_world_laws.specs.OpTraces.{operation_begun, operation_taken, nine_put, older_asked, stop_for_operation, then_stopped, inner_asked, inner_waits, inner_replied};
 ghost use Rattle.blocking_world_laws.specs.declared.event.Act.TheVariants.{Made, GotItem, GotEnd, Back, ResultGot, JobParked, Put, ResultPut};
 ghost use Rattle.blocking_world_laws.specs.declared.event.Reply.TheVariants.{OneItem, NoMore, Handle, NotBegun, Failed as FailedReply};
 ghost use Rattle.blocking_world_laws.specs.declared.step.Answer.TheVariants.{Item, Fine, Failed as FailedAnswer};

@@ -13,11 +13,11 @@ use Rattle.blocking_core.specs.declared.job.write.WriteAction.TheVariants as wri
 use Rattle.blocking_world_laws.specs.Places.{seen_peek, seen_put, seen_room}
 use Rattle.blocking_world_laws.specs.declared.event.HolderWaker.{HolderWaker}
 use Rattle.blocking_world_pool.specs.declared.hand.Stage.TheVariants as stage
-use Rattle.blocking_world_holders.specs.Operations as operations
+use Rattle.blocking_world_holders.specs.Ops as operations
 use Rattle.blocking_world_holders.specs.Reads as reads
 use Rattle.blocking_world_holders.specs.Seeks as seeks
 use Rattle.blocking_world_holders.specs.SessionJobs.{action_of, kind_of}
-use Rattle.blocking_world_holders.specs.Streams as streams
+use Rattle.blocking_world_holders.specs.Items as streams
 use Rattle.blocking_world_holders.specs.Writes as writes
 use Rattle.blocking_world_holders.specs.declared.job.SessionJob.TheVariants as job_of
 

@@ -4,10 +4,10 @@ use Rattle.blocking_world_state.proofs.Types.{Act, Answered, Answer, SessionJob}
 use Rattle.blocking_world_state.proofs.Words.{Kind, JobAction, next_but_wake, wake_first, next_of_job, is_answer, is_answered_action, next_in_turn, GoesOn, has_waker, job_after_answer, JobAs, is_first}
 use Rattle.blocking_world_holders.specs.SessionJobs.{action_of, kind_of}
 use Rattle.blocking_world_holders.specs.declared.job.SessionJob.TheVariants as job_of
-use Rattle.blocking_world_holders.proofs.owners.OperationJobs as operations
+use Rattle.blocking_world_holders.proofs.owners.OpJobs as operations
 use Rattle.blocking_world_holders.proofs.owners.ReadJobs as reads
 use Rattle.blocking_world_holders.proofs.owners.SeekJobs as seeks
-use Rattle.blocking_world_holders.proofs.owners.StreamJobs as streams
+use Rattle.blocking_world_holders.proofs.owners.ItemJobs as streams
 use Rattle.blocking_world_holders.proofs.owners.WriteJobs as writes
 
 -- what it does next is what the table says

@@ -1,11 +1,11 @@
 use Rattle.std.proofs.Common.{◌≡◌, ap, sym, subst, refl}
 use Rattle.blocking_core.specs.Machines.{Machine}
-use Rattle.blocking_core.specs.Operations.{operation_next, operation_after}
+use Rattle.blocking_core.specs.Ops.{operation_next, operation_after}
 use Rattle.blocking_core.specs.declared.job.operation.OpAction.{OpAction}
 use Rattle.blocking_core.specs.declared.job.operation.OpAction.TheVariants.{Deliver}
 use Rattle.blocking_core.specs.declared.job.operation.OpAnswer.TheVariants as by
 use Rattle.blocking_unblock_jobs.specs.Works.{IsKept}
-use Rattle.blocking_unblock_jobs.specs.Operators.{Fits, HasPut}
+use Rattle.blocking_unblock_jobs.specs.OpJobs.{Fits, HasPut}
 use Rattle.blocking_unblock_jobs.proofs.Delivered.{delivered}
 use Rattle.blocking_unblock_jobs.proofs.op_job.OpJob.deliver.Goals as goal
 

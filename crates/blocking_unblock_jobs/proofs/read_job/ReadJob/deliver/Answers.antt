@@ -1,11 +1,11 @@
 use Rattle.std.proofs.Common.{◌≡◌, ap, sym, subst, refl}
 use Rattle.blocking_core.specs.Machines.{Machine}
-use Rattle.blocking_core.specs.Reading.{read_next, read_after}
+use Rattle.blocking_core.specs.Reads.{read_next, read_after}
 use Rattle.blocking_core.specs.declared.job.read.ReadAction.{ReadAction}
 use Rattle.blocking_core.specs.declared.job.read.ReadAction.TheVariants.{Deliver}
 use Rattle.blocking_core.specs.declared.job.read.ReadAnswer.TheVariants as by
 use Rattle.blocking_unblock_jobs.specs.Works.{IsKept}
-use Rattle.blocking_unblock_jobs.specs.Readers.{Fits, HasClosed}
+use Rattle.blocking_unblock_jobs.specs.ReadJobs.{Fits, HasClosed}
 use Rattle.blocking_unblock_jobs.proofs.Delivered.{delivered}
 use Rattle.blocking_unblock_jobs.proofs.read_job.ReadJob.deliver.Goals as goal
 

@@ -1,11 +1,11 @@
 use Rattle.std.proofs.Common.{◌≡◌, ap, sym, subst, refl}
 use Rattle.std.specs.declared.io.Error.{Error}
-use Rattle.blocking_core.specs.Writing.{WriteMachine, write_next, write_after}
+use Rattle.blocking_core.specs.Writes.{WriteMachine, write_next, write_after}
 use Rattle.blocking_core.specs.declared.job.write.WriteAction.{WriteAction}
 use Rattle.blocking_core.specs.declared.job.write.WriteAction.TheVariants.{Deliver}
 use Rattle.blocking_core.specs.declared.job.write.WriteAnswer.TheVariants as by
 use Rattle.blocking_unblock_jobs.specs.Works.{IsKept}
-use Rattle.blocking_unblock_jobs.specs.Writers.{Fits, HasClosed, HasFlushed}
+use Rattle.blocking_unblock_jobs.specs.WriteJobs.{Fits, HasClosed, HasFlushed}
 use Rattle.blocking_unblock_jobs.proofs.Delivered.{delivered}
 use Rattle.blocking_unblock_jobs.proofs.write_job.WriteJob.deliver.Goals as goal
 

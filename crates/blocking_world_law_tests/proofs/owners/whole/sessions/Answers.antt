@@ -12,7 +12,7 @@ use Rattle.blocking_world_laws.specs.Sessions.{Session, capacity, is_shut, sessi
 use Rattle.blocking_world_laws.specs.Wakes.{is_at_rest, is_waiting, was_woken}
 use Rattle.blocking_world_laws.specs.OwnerLaws.{OwnerLaws}
 use Rattle.blocking_world_laws.specs.Traces.{◌▸◌}
-use Rattle.blocking_world_laws.specs.OperationTraces.{operation_over, inner_replied}
+use Rattle.blocking_world_laws.specs.OpTraces.{operation_over, inner_replied}
 use Rattle.blocking_world_laws.specs.OwnerTraces.{polls, end_read, stop_back}
 use Rattle.blocking_world_laws.specs.declared.event.Act.{Act}
 use Rattle.blocking_world_laws.specs.declared.event.Act.TheVariants.{Accepted, Replied}

@@ -4,7 +4,7 @@ use Rattle.std.specs.Coded.{Coded, code_by, coded×, coded_bool, coded_ℕ, code
 use Rattle.std.specs.Io.KnownBytes.{Appends, Keeps}
 use Rattle.std.specs.declared.io.Error.{Error}
 use Rattle.std.specs.contracts.io.Error.{the_row as error_row}
-use Rattle.blocking_core.specs.Writing.{WriteMachine, write_next, write_after}
+use Rattle.blocking_core.specs.Writes.{WriteMachine, write_next, write_after}
 use Rattle.blocking_core.specs.declared.io.JobFault.{JobFault}
 use Rattle.blocking_core.specs.contracts.io.JobFault.{the_row as fault_row}
 use Rattle.blocking_core.specs.declared.job.write.WriteAction.{WriteAction}

@@ -5,7 +5,7 @@ use Rattle.std.specs.Io.KnownBytes.{Consumes, Keeps}
 use Rattle.std.specs.declared.io.Error.{Error}
 use Rattle.std.specs.contracts.io.Error.{the_row as error_row}
 use Rattle.blocking_core.specs.Machines.{Machine}
-use Rattle.blocking_core.specs.Reading.{read_next, read_after}
+use Rattle.blocking_core.specs.Reads.{read_next, read_after}
 use Rattle.blocking_core.specs.declared.io.JobFault.{JobFault}
 use Rattle.blocking_core.specs.contracts.io.JobFault.{the_row as fault_row}
 use Rattle.blocking_core.specs.declared.job.read.ReadAction.{ReadAction}

@@ -2,7 +2,7 @@
 use Rattle.std.specs.Prelude.{◌≡◌, Bool, Option, Some, None, IsSome, IfSome, refl}
 use Rattle.std.specs.Coded.{Coded, code_by, coded×, coded_bool, coded_option}
 use Rattle.blocking_core.specs.Machines.{Machine}
-use Rattle.blocking_core.specs.Operations.{operation_next, operation_after}
+use Rattle.blocking_core.specs.Ops.{operation_next, operation_after}
 use Rattle.blocking_core.specs.declared.job.operation.OpAction.{OpAction}
 use Rattle.blocking_core.specs.declared.job.operation.OpAction.TheVariants.{Call, PutResult, Finish, Deliver, Done}
 use Rattle.blocking_core.specs.declared.job.operation.OpAnswer.{OpAnswer}

@@ -7,31 +7,31 @@ use std::marker::Model;
 
 /// How far the job of an operation is: what it does next, and the number that the operation gave, once it did.
 #[derive(Drop)]
-pub struct OperationProgress {
+pub struct OpProgress {
     core: OpCore,
     // (0 before it was given)
     number: u64,
 }
 
-impl Model for OperationProgress {
-    ghost use Rattle.blocking_world_holders.specs.Operations.{Progress};
+impl Model for OpProgress {
+    ghost use Rattle.blocking_world_holders.specs.Ops.{Progress};
 
     ghost Value = { Progress };
 
     ghost view = { λ p. record { core = p.core; number = p.number } };
 }
 
-impl OperationProgress {
-    ghost use Rattle.blocking_core.specs.Operations.{operation_next};
+impl OpProgress {
+    ghost use Rattle.blocking_core.specs.Ops.{operation_next};
     ghost use Rattle.blocking_core.specs.declared.job.operation.OpAnswer.TheVariants as by;
     ghost use Rattle.blocking_world_laws.specs.JobTable.{is_answer};
-    ghost use Rattle.blocking_world_holders.specs.Operations.{not_begun, action_of, progress_after_answer, progress_after_number, progress_with};
+    ghost use Rattle.blocking_world_holders.specs.Ops.{not_begun, action_of, progress_after_answer, progress_after_number, progress_with};
 
     /// A job that has done nothing yet.
-    pub fn new() -> OperationProgress
+    pub fn new() -> OpProgress
         ensures { result ≡ not_begun }
     {
-        OperationProgress {
+        OpProgress {
             core: OpCore::new(),
             number: 0,
         }

@@ -1,7 +1,7 @@
 -- How far the job of an operation is, and how that hangs together with what it has done.
 use Rattle.std.specs.Prelude.{◌≡◌, ℕ, List, None}
 use Rattle.blocking_core.specs.Machines.{Machine}
-use Rattle.blocking_core.specs.Operations.{new_operation, operation_next, operation_after}
+use Rattle.blocking_core.specs.Ops.{new_operation, operation_next, operation_after}
 use Rattle.blocking_core.specs.declared.job.operation.OpAction.{OpAction}
 use Rattle.blocking_core.specs.declared.job.operation.OpAction.TheVariants as operation
 use Rattle.blocking_core.specs.declared.job.operation.OpAnswer.{OpAnswer}

@@ -52,7 +52,7 @@ impl Model for OpCore {
 
 impl OpCore {
     ghost use Rattle.std.specs.Prelude.{◌≡◌};
-    ghost use Rattle.blocking_core.specs.Operations.{new_operation, operation_next, operation_after};
+    ghost use Rattle.blocking_core.specs.Ops.{new_operation, operation_next, operation_after};
 
     /// The core of a job that hasn't begun.
     pub fn new() -> Self

@@ -11,10 +11,10 @@ ghost use Rattle.blocking_world_laws.specs.Traces.{◌▸◌, moment, Refuses, K
 ghost use Rattle.blocking_world_laws.specs.OwnerTraces.{asks, polls, works, given, ends};
 ghost use Rattle.blocking_world_laws.specs.OwnerTraces.{FirstOwnerLaw, KeepsFirstOwner, FirstOwnerEnds, FirstOwnerPasses, FirstOwnerIsNotLost, FirstOwnersJobParksRightly};
 ghost use Rattle.blocking_world_laws.specs.OwnerTraces.{reader_parked};
-ghost use Rattle.blocking_world_laws.specs.StreamTraces.{stream_made, item_asked, stream_begun, stream_taken, first_given, first_sent, second_waits, stream_parked};
-ghost use Rattle.blocking_world_laws.specs.StreamTraces.{first_asked, first_got, first_told, second_taken, second_sent, stream_done, second_asked};
-ghost use Rattle.blocking_world_laws.specs.StreamTraces.{second_replied, stream_back, stream_ended, stream_anew};
-ghost use Rattle.blocking_world_laws.specs.StreamTraces.{stream_stops, stream_stopped, stopped_back, untold_stream, untold_stream_job};
+ghost use Rattle.blocking_world_laws.specs.ItemTraces.{stream_made, item_asked, stream_begun, stream_taken, first_given, first_sent, second_waits, stream_parked};
+ghost use Rattle.blocking_world_laws.specs.ItemTraces.{first_asked, first_got, first_told, second_taken, second_sent, stream_done, second_asked};
+ghost use Rattle.blocking_world_laws.specs.ItemTraces.{second_replied, stream_back, stream_ended, stream_anew};
+ghost use Rattle.blocking_world_laws.specs.ItemTraces.{stream_stops, stream_stopped, stopped_back, untold_stream, untold_stream_job};
 ghost use Rattle.blocking_world_laws.specs.declared.event.Act.TheVariants.{Made, Accepted, Refused, OwnerClosed, GotItem, GotEnd, Back, Replied, Waits, Answered, Ended, JobParked, Put, Lost, JobClosed, Finished};
 ghost use Rattle.blocking_world_laws.specs.declared.event.HolderWaker.TheVariants.{Taken, Absent};
 ghost use Rattle.blocking_world_laws.specs.declared.event.Party.TheVariants.{Owner};

@@ -1,7 +1,7 @@
 -- How far the job of an operation is after each of its acts.
 use Rattle.std.proofs.Common.{arith, ◌≡◌, List, ◌∷◌, Bool, true, false, refl, sym, ap, ◌∙◌}
 use Rattle.blocking_world_holders.proofs.Types.{OpAction, OpAnswer, Act, Answered, HolderWoken, Answer, Number}
-use Rattle.blocking_world_holders.proofs.Words.{Machine, machine, wake_first, operation_after, operation_by, operation_in, operation_next, AskResult, Operating, job_earlier, fault, fault_in, is_answer, job_next_after_answer as next_after_answer, next_but_wake, next_of_job, number, takes_waker, job_wake_first, OperationAs, OperationProgress as Progress, operation_action_as as action_as, operation_action_of as action_of, operation_progress_after_answer as progress_after_answer, operation_progress_with as progress_with, has_waker}
+use Rattle.blocking_world_holders.proofs.Words.{Machine, machine, wake_first, operation_after, operation_by, operation_in, operation_next, AskResult, Operating, job_earlier, fault, fault_in, is_answer, job_next_after_answer as next_after_answer, next_but_wake, next_of_job, number, takes_waker, job_wake_first, OperationAs, OpProgress as Progress, operation_action_as as action_as, operation_action_of as action_of, operation_progress_after_answer as progress_after_answer, operation_progress_with as progress_with, has_waker}
 use Rattle.blocking_world_holders.proofs.owners.ReadJobs.{awake_by}
 
 -- ---- what it does next
