@@ -5,8 +5,8 @@ ghost use Rattle.blk_commands.specs.Instructions.{actor_named, answer_of, client
 use crate::bytes::bytes_of;
 use crate::number::{count, number, small_number};
 use crate::position::position_of;
-use blocking_world_laws::HandleCall;
 use blocking_world::{Answer, Step, TaskCall};
+use blocking_world_laws::HandleCall;
 use std::alloc::{AllocError, Global};
 
 /// An instruction: what a line has the script do.

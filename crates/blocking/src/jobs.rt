@@ -4,8 +4,8 @@ ghost use Rattle.blocking.specs.JobSteps.{StepsAs};
 use blocking_core::pool::{Carries, Job, JobNo, JobStep};
 use blocking_core::task::{Call, CallOn};
 use blocking_executor::{CallJob, Runtime};
-use blocking_unblock_jobs::{ItemJob, OpJob, ReadJob, SeekJob, WriteJob};
 use blocking_unblock::Unblock;
+use blocking_unblock_jobs::{ItemJob, OpJob, ReadJob, SeekJob, WriteJob};
 use std::fs::File;
 use std::io::{self, Read, Seek, SeekFrom, Write};
 

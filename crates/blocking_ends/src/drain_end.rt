@@ -7,8 +7,8 @@ use crate::hand::Hand;
 use crate::locked::{JobToOwner, OfReceived, Tally};
 use crate::rule::PlaceRule;
 use blocking_core::pipe::{Answered, CopyStore, Drained, Fetched, Loan, PipeEnd, Store};
-use blocking_sync::{OwnerWaker, enter_where};
 use blocking_pool::pool::WakeNote;
+use blocking_sync::{OwnerWaker, enter_where};
 use futures::task::{Context, Poll, Source};
 use std::sync::{Arc, Mutex, MutexGuard, Wait};
 

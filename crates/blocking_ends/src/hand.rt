@@ -4,8 +4,8 @@ ghost use Rattle.std.specs.Prelude.{◌≡◌, ◌<◌, ◌≤◌, ◌+◌, ◌^
 use crate::locked::{JobToOwner, OwnerToJob};
 use crate::rule::PlaceRule;
 use blocking_core::pipe::{Answered, CopyStore, Fetched, Peeked};
-use blocking_sync::OwnerWaker;
 use blocking_pool::pool::JobNo;
+use blocking_sync::OwnerWaker;
 use std::marker::{Model, PhantomData};
 
 #[derive(Drop)]

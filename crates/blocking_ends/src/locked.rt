@@ -10,8 +10,8 @@ use blocking_core::pipe::{
     Answered, CopyStore, Drained, Fetched, Filled, Loan, Peeked, Pipe, PipeEnd, Put, Received,
     Room, Sending, Space, Store,
 };
-use blocking_sync::OwnerWaker;
 use blocking_pool::pool::{JobNo, WakeNote};
+use blocking_sync::OwnerWaker;
 use std::marker::{Model, PhantomData};
 pub use tally::Closed;
 pub(crate) use tally::{OfReceived, OfSent, Tally};

@@ -5,8 +5,8 @@ use crate::hand::Hand;
 use crate::locked::{Closed, OfReceived, OwnerToJob, Tally};
 use crate::rule::PlaceRule;
 use blocking_core::pipe::{CopyStore, Loan, Peeked, Store};
-use blocking_sync::{OwnerWaker, enter_where};
 use blocking_pool::pool::JobNo;
+use blocking_sync::{OwnerWaker, enter_where};
 use std::marker::Model;
 use std::sync::{Arc, Mutex, MutexGuard, Wait};
 

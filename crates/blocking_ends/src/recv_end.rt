@@ -5,8 +5,8 @@ ghost use Rattle.futures.specs.Task.{Covers, Keeps};
 use crate::locked::{JobToOwner, OfReceived, Tally};
 use crate::rule::PlaceRule;
 use blocking_core::pipe::{Answered, CopyStore, Drained, PipeEnd, Received, Store};
-use blocking_sync::{OwnerWaker, enter_where};
 use blocking_pool::pool::WakeNote;
+use blocking_sync::{OwnerWaker, enter_where};
 use futures::task::{Context, Poll, Source};
 use std::sync::{Arc, Mutex, MutexGuard, Wait};
 

@@ -4,8 +4,8 @@ ghost use Rattle.std.specs.Prelude.{◌≡◌, ◌<◌, ◌≤◌, ◌+◌, ◌-
 use crate::locked::{Closed, JobToOwner, OfSent, Tally};
 use crate::rule::PlaceRule;
 use blocking_core::pipe::{CopyStore, Put, Room, Sending, Space, Store};
-use blocking_sync::{OwnerWaker, enter_where};
 use blocking_pool::pool::JobNo;
+use blocking_sync::{OwnerWaker, enter_where};
 use std::sync::{Arc, Mutex, MutexGuard, Wait};
 
 /// The end of a job that sends to its owner: each item holds at its place, by the rule `R`.

@@ -16,7 +16,9 @@ use blocking_core::task::{OfSlot, Seat};
 use blocking_core::unblock::{OwnerAnswer, OwnerEnd, SessionKind};
 use blocking_ends::{AnyPlace, DrainEnd, FillEnd, ItemRecvEnd, PeekEnd, SendEnd};
 use blocking_executor::Added;
-use blocking_unblock_jobs::{MayFail, ReadBack, Returned, SessionStore, Sought, WayBack, WriteBack};
+use blocking_unblock_jobs::{
+    MayFail, ReadBack, Returned, SessionStore, Sought, WayBack, WriteBack,
+};
 use futures::task::Context;
 use std::io;
 use std::sync::Wait;

@@ -15,9 +15,9 @@ ghost use Rattle.blocking_world_laws.specs.Staffed.{IsStaffed, AreAsSeen};
 
 use crate::copies::twin_in;
 use blocking_world_copiers::Assembly;
-use blocking_world_pool::{NoStarts, PlannedStarts};
 use blocking_world_laws::event::{Event, Moment};
 use blocking_world_laws::step::Step;
+use blocking_world_pool::{NoStarts, PlannedStarts};
 use std::alloc::{AllocError, Global};
 use std::marker::{Brand, Model};
 use std::sync::ledger::{Blank, Ledger};

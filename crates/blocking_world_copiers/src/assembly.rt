@@ -5,9 +5,9 @@ ghost use Rattle.blocking_world_copiers.specs.Copiers.{belongs, has_number};
 
 use crate::copier::{Copier, CopierNext};
 use blocking_core::pool::Starter;
-use blocking_world_pool::NoStarts;
 use blocking_world_laws::event::{Act, Event, Party};
 use blocking_world_laws::step::{HandleCall, Step};
+use blocking_world_pool::NoStarts;
 use blocking_world_state::Parts;
 use std::alloc::{AllocError, Global};
 use std::marker::Model;

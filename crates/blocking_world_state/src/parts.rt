@@ -4,10 +4,10 @@ ghost use Rattle.blocking_world_holders.specs.Owners.{bytes_in};
 
 use crate::row::{Core, Row};
 use blocking_core::pool::{Starter, WakeNote};
-use blocking_world_pool::{Crew, NoStarts, Stage, Ticket};
 use blocking_world_holders::{Owner, OwnerNext, Task};
 use blocking_world_laws::event::{Act, Event, Party, WaitEnd};
 use blocking_world_laws::step::{Answer, HandleCall, Step, TaskCall};
+use blocking_world_pool::{Crew, NoStarts, Stage, Ticket};
 use std::alloc::{AllocError, Global};
 use std::marker::Model;
 use std::sync::ledger::Ledger;

@@ -4,11 +4,11 @@ ghost use Rattle.blocking_world_state.specs.Rows.{IsActed, IsActedFor, call_step
 
 use blocking_core::job::Action;
 use blocking_core::pool::JobNo;
-use blocking_world_pool::Stage;
 use blocking_world_holders::{CallProgress, Owner, SessionJob, Task};
 use blocking_world_laws::Act;
 use blocking_world_laws::event::HolderWaker;
 use blocking_world_laws::step::Answer;
+use blocking_world_pool::Stage;
 use std::alloc::{AllocError, Global};
 
 /// Whom a job is for, and how far it is.

@@ -4,8 +4,8 @@ use crate::row::PlainStep::{
     Strike, Take,
 };
 use crate::row::{Place, PlainStep, counts, sees};
-use blocking_world_laws::step::TaskCall::Drop;
 use blocking_world::World;
+use blocking_world_laws::step::TaskCall::Drop;
 use std::alloc::Global;
 use std::test::Fail;
 

@@ -3,9 +3,9 @@ use crate::row::PlainStep::{
     Arrive, AskFlush, AskRead, AskWrite, End, Flushed, Gives, Io, Job, New, Own, Take,
 };
 use crate::row::{Place, PlainStep, add_line, agree, texts};
+use blocking_world::{World, cut, run};
 use blocking_world_laws::event::Event;
 use blocking_world_laws::step::Step;
-use blocking_world::{World, cut, run};
 use std::alloc::{AllocError, Global};
 use std::test::Fail;
 

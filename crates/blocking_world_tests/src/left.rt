@@ -1,10 +1,10 @@
 //! Each call of an owner, left where it waits, with each other call after it. The job of its session stands anywhere, with stray wakes of
 //! every job and without. The run goes on to the right reply. The handle may fail or end at a call, and a stop may be under way before.
 use blocking_core::io::{Fault, Position};
+use blocking_world::{World, run};
 use blocking_world_laws::bytes::Bytes;
 use blocking_world_laws::event::{Act, Event, Reply};
 use blocking_world_laws::step::{Answer, HandleCall, Step};
-use blocking_world::{World, run};
 use std::alloc::{AllocError, Global};
 use std::test::Fail;
 

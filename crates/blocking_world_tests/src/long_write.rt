@@ -1,8 +1,8 @@
 //! A write of more bytes than are offered to a writer at once.
 use crate::row::{Place, agree};
+use blocking_world::{World, run};
 use blocking_world_laws::bytes::Bytes;
 use blocking_world_laws::step::{Answer, HandleCall, Step};
-use blocking_world::{World, run};
 use std::alloc::{AllocError, Global};
 use std::test::Fail;
 

@@ -7,11 +7,11 @@ use crate::row::PlainStep::{
 use crate::row::{Place, PlainStep, agree, counts, sees};
 use blocking_core::io::Position;
 use blocking_core::pool::Refusal;
+use blocking_world::{World, cut, run};
 use blocking_world_laws::bytes::Bytes;
 use blocking_world_laws::event::{Act, Event, Party};
 use blocking_world_laws::step::TaskCall::Poll;
 use blocking_world_laws::step::{Answer, Step};
-use blocking_world::{World, cut, run};
 use std::alloc::{AllocError, Global};
 use std::fmt::Write;
 use std::test::Fail;

@@ -1,9 +1,9 @@
 //! Steps as plain data, and what is seen of them.
 use blocking_core::io::Position;
+use blocking_world::{World, run};
 use blocking_world_laws::bytes::Bytes;
 use blocking_world_laws::event::Event;
 use blocking_world_laws::step::{Answer, HandleCall, Step, TaskCall};
-use blocking_world::{World, run};
 use std::alloc::{AllocError, Global};
 use std::test::Fail;
 

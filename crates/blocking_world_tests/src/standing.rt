@@ -3,8 +3,8 @@ use crate::row::PlainStep::{
     Arrive, AskFlush, AskWrite, End, Flushed, Io, Job, Late, New, OfTask, Own, Spawn, Take,
 };
 use crate::row::{Place, PlainStep, sees};
-use blocking_world_laws::step::TaskCall::Poll;
 use blocking_world::World;
+use blocking_world_laws::step::TaskCall::Poll;
 use std::alloc::Global;
 use std::test::Fail;
 

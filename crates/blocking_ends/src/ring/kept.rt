@@ -4,8 +4,8 @@ ghost use Rattle.std.specs.Prelude.{◌≡◌, None, Some, IfSome};
 use crate::rule::PlaceRule;
 use blocking_core::pipe::{OfItemRing, Seats};
 use blocking_core::task::Seat;
-use blocking_sync::OwnerWaker;
 use blocking_pool::pool::{JobNo, WakeNote};
+use blocking_sync::OwnerWaker;
 use std::marker::{Model, PhantomData};
 
 /// The proof that a job said where the items end. It is made where that is written down, and nowhere else.

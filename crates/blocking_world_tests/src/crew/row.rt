@@ -2,9 +2,9 @@
 ghost use Rattle.std.specs.Prelude.{◌≡◌, ◌<◌};
 
 use blocking_core::pool::{JobNo, Starter, WakeNote};
-use blocking_world_pool::{Crew, NoStarts, PlannedStarts, Ticket};
 use blocking_world_laws::event::{HolderWaker, WaitEnd};
 use blocking_world_laws::{Act, Event, Party};
+use blocking_world_pool::{Crew, NoStarts, PlannedStarts, Ticket};
 use std::alloc::Global;
 use std::marker::Brand;
 use std::sync::ledger::{Blank, Ledger};
