@@ -38,7 +38,7 @@ use std::{fmt, io, mem};
 /// takes it first. What a queued one had to write is lost. A seek or an operation under way is made.
 ///
 /// The memory of a session that read or wrote is kept for the next one of its kind. It is that of its pipe and its pieces, of which no more
-/// was touched than was used. It is given back where a session of another kind begins or one is refused, and with the owner: by
+/// was touched than was used, but for one piece of a reader, which is cleared first. It is given back where a session of another kind begins or one is refused, and with the owner: by
 /// [`Unblock::into_inner`], a close, or a drop.
 ///
 /// A handle is moved as it is, with its owner and with its job, so one that holds a buffer of its own is best lent in a `Box`.
@@ -149,7 +149,7 @@ impl<T: Drop, I: Drop, J: Job, H: Runtime> Unblock<T, I, J, H> {
         }
     }
 
-    /// Whether the handle was dropped. Then nothing more may be asked.
+    /// Whether the handle was dropped. Then only a flush and a close may be asked.
     ///
     /// ```rust
     /// block_on(&rt, writer.close())??;
