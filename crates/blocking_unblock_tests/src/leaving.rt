@@ -262,24 +262,28 @@ impl Watched {
 }
 
 // The same, over a pool of its own, of one worker.
-fn flushes<H: Host>(rt: H, leaves: Leaves, wanted: &[u8]) -> io::Result<bool> {
+fn flushes<J: Begins<Late<H>, H> + Send + 'static, H: Host>(
+    rt: H,
+    leaves: Leaves,
+    wanted: &[u8],
+) -> io::Result<bool> {
     let watched = Watched::new(rt.alloc())?;
     // (what is seen of the first owner's writer, which is never lent)
     let of_first = Arc::new(rt.alloc(), Flushed::new(rt.alloc()))?;
     let writer = Late::new(rt, rt.alloc(), &of_first, false)?;
-    let root = root::<_, WriteJob<Late<H>, H>, H>(rt, "1", writer)?;
+    let root = root::<_, J, H>(rt, "1", writer)?;
     watched.flushes(rt, &root, leaves, wanted)
 }
 
 #[test]
 fn writer_that_runs_writes_all(rt: HostRuntime) -> Result<(), Fail> {
-    assert!(rt; flushes(rt, Leaves::Running, b"abcd")?);
+    assert!(rt; flushes::<WriteJob<_, _>, _>(rt, Leaves::Running, b"abcd")?);
     Ok(())
 }
 
 #[test]
 fn queued_writer_writes_nothing(rt: HostRuntime) -> Result<(), Fail> {
-    assert!(rt; flushes(rt, Leaves::Queued, b"")?);
+    assert!(rt; flushes::<WriteJob<_, _>, _>(rt, Leaves::Queued, b"")?);
     Ok(())
 }
 
@@ -402,15 +406,15 @@ fn goes_at_once_of<S: LendsOn<Planned>, H: Runtime + RandomSource>(
 }
 
 // The same, over a pool of its own, of one worker.
-fn goes_at_once<H: Host>(rt: H) -> io::Result<bool> {
+fn goes_at_once<J: Begins<Planned, H> + Send + 'static, H: Host>(rt: H) -> io::Result<bool> {
     let reader = Planned::new(rt.alloc(), Arc::new(rt.alloc(), Track::new())?, &[])?;
-    let root = root::<_, ReadJob<Planned, H>, H>(rt, "1", reader)?;
+    let root = root::<_, J, H>(rt, "1", reader)?;
     goes_at_once_of(rt, &root)
 }
 
 #[test]
 fn reader_whose_job_is_over_goes_at_once(rt: HostRuntime) -> Result<(), Fail> {
-    assert!(rt; goes_at_once(rt)?);
+    assert!(rt; goes_at_once::<ReadJob<_, _>, _>(rt)?);
     Ok(())
 }
 
@@ -525,13 +529,15 @@ fn full_one_stops<S: LendsOn<Endless<H>>, H: Runtime + RandomSource>(
 }
 
 // The same of a stream, over a pool of its own, of one worker.
-fn full_stream_stops<H: Host>(rt: H) -> io::Result<bool> {
-    let root = root_of::<ItemJob<Endless<H>, u8, H>, H>(rt, "1")?;
+fn full_stream_stops<J: Begins<Endless<H>, H> + Send + 'static, H: Host>(
+    rt: H,
+) -> io::Result<bool> {
+    let root = root_of::<J, H>(rt, "1")?;
     full_one_stops(rt, &root)
 }
 
 #[test]
 fn stream_is_stopped_at_a_full_pipe(rt: HostRuntime) -> Result<(), Fail> {
-    assert!(rt; full_stream_stops(rt)?);
+    assert!(rt; full_stream_stops::<ItemJob<_, u8, _>, _>(rt)?);
     Ok(())
 }
