@@ -6,8 +6,8 @@ use std::hint::spin_loop;
 // Fewer items or places than so many, and than a third of the ring, are few.
 const FEW: usize = 32;
 
-// How often a side turns that lets the other get ahead: one microsecond or two.
-const TURNS: u32 = 320;
+// How often a side turns that lets the other get ahead: half a microsecond to one and a half, as a turn takes 3 to 11 ns.
+const TURNS: u32 = 120;
 
 /// Turns so often, each time for some nanoseconds.
 pub(super) fn pause(turns: u32) {
