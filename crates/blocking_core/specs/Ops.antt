@@ -1,10 +1,10 @@
 -- What the job of an operation does after an answer.
 use Rattle.std.specs.Prelude.{Bool, true, false}
 use Rattle.blocking_core.specs.Machines.{Machine, machine, wake_first}
-use Rattle.blocking_core.specs.declared.job.operation.OpAction.{OpAction}
-use Rattle.blocking_core.specs.declared.job.operation.OpAction.TheVariants.{Call, PutResult, Finish, Deliver, Done}
-use Rattle.blocking_core.specs.declared.job.operation.OpAnswer.{OpAnswer}
-use Rattle.blocking_core.specs.declared.job.operation.OpAnswer.TheVariants as by
+use Rattle.blocking_core.specs.declared.job.op.OpAction.{OpAction}
+use Rattle.blocking_core.specs.declared.job.op.OpAction.TheVariants.{Call, PutResult, Finish, Deliver, Done}
+use Rattle.blocking_core.specs.declared.job.op.OpAnswer.{OpAnswer}
+use Rattle.blocking_core.specs.declared.job.op.OpAnswer.TheVariants as by
 
 -- a job that hasn't begun
 abbrev pub new_operation : Machine OpAction

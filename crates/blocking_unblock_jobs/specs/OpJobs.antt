@@ -3,11 +3,11 @@ use Rattle.std.specs.Prelude.{◌≡◌, Bool, Option, Some, None, IsSome, IfSom
 use Rattle.std.specs.Coded.{Coded, code_by, coded×, coded_bool, coded_option}
 use Rattle.blocking_core.specs.Machines.{Machine}
 use Rattle.blocking_core.specs.Ops.{operation_next, operation_after}
-use Rattle.blocking_core.specs.declared.job.operation.OpAction.{OpAction}
-use Rattle.blocking_core.specs.declared.job.operation.OpAction.TheVariants.{Call, PutResult, Finish, Deliver, Done}
-use Rattle.blocking_core.specs.declared.job.operation.OpAnswer.{OpAnswer}
-use Rattle.blocking_core.specs.declared.job.operation.OpAnswer.TheVariants as by
-use Rattle.blocking_core.specs.contracts.job.operation.OpAction.{the_row}
+use Rattle.blocking_core.specs.declared.job.op.OpAction.{OpAction}
+use Rattle.blocking_core.specs.declared.job.op.OpAction.TheVariants.{Call, PutResult, Finish, Deliver, Done}
+use Rattle.blocking_core.specs.declared.job.op.OpAnswer.{OpAnswer}
+use Rattle.blocking_core.specs.declared.job.op.OpAnswer.TheVariants as by
+use Rattle.blocking_core.specs.contracts.job.op.OpAction.{the_row}
 use Rattle.blocking_pool.specs.declared.pool.job.JobStep.{JobStep}
 use Rattle.blocking_pool.specs.declared.pool.job.JobStep.TheVariants as step
 

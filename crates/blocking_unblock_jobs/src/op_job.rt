@@ -1,7 +1,7 @@
 //! The job that makes an operation on a handle.
 ghost use Rattle.std.specs.Prelude.{◌≡◌, None, Some, OnErr, IfOk};
 ghost use Rattle.futures.specs.Task.{IsArmed, Keeps};
-ghost use Rattle.blocking_core.specs.declared.job.operation.OpAction.TheVariants.{Call, PutResult, Finish, Deliver};
+ghost use Rattle.blocking_core.specs.declared.job.op.OpAction.TheVariants.{Call, PutResult, Finish, Deliver};
 ghost use Rattle.blocking_core.specs.Ops.{new_operation, operation_next};
 
 use crate::share::{Given, MayFail, SessionShare, put_result};

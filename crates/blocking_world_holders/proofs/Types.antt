@@ -5,8 +5,8 @@ pub use Rattle.blocking_core.specs.declared.io.JobFault.{JobFault}
 pub use Rattle.blocking_core.specs.declared.io.Position.{Position}
 pub use Rattle.blocking_core.specs.declared.job.item.ItemAction.{ItemAction}
 pub use Rattle.blocking_core.specs.declared.job.item.ItemAnswer.{ItemAnswer}
-pub use Rattle.blocking_core.specs.declared.job.operation.OpAction.{OpAction}
-pub use Rattle.blocking_core.specs.declared.job.operation.OpAnswer.{OpAnswer}
+pub use Rattle.blocking_core.specs.declared.job.op.OpAction.{OpAction}
+pub use Rattle.blocking_core.specs.declared.job.op.OpAnswer.{OpAnswer}
 pub use Rattle.blocking_core.specs.declared.job.read.ReadAction.{ReadAction}
 pub use Rattle.blocking_core.specs.declared.job.read.ReadAnswer.{ReadAnswer}
 pub use Rattle.blocking_core.specs.declared.job.seek.SeekAction.{SeekAction}

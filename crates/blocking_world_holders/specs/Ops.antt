@@ -2,10 +2,10 @@
 use Rattle.std.specs.Prelude.{◌≡◌, ℕ, List, None}
 use Rattle.blocking_core.specs.Machines.{Machine}
 use Rattle.blocking_core.specs.Ops.{new_operation, operation_next, operation_after}
-use Rattle.blocking_core.specs.declared.job.operation.OpAction.{OpAction}
-use Rattle.blocking_core.specs.declared.job.operation.OpAction.TheVariants as operation
-use Rattle.blocking_core.specs.declared.job.operation.OpAnswer.{OpAnswer}
-use Rattle.blocking_core.specs.declared.job.operation.OpAnswer.TheVariants as by
+use Rattle.blocking_core.specs.declared.job.op.OpAction.{OpAction}
+use Rattle.blocking_core.specs.declared.job.op.OpAction.TheVariants as operation
+use Rattle.blocking_core.specs.declared.job.op.OpAnswer.{OpAnswer}
+use Rattle.blocking_core.specs.declared.job.op.OpAnswer.TheVariants as by
 use Rattle.blocking_world_laws.specs.JobTable.{Operating, JobAction, AskResult, PutResult, Finish, WakeHolder, Over, next_but_wake, fault, number}
 use Rattle.blocking_world_laws.specs.declared.event.Act.{Act}
 use Rattle.blocking_world_laws.specs.declared.step.Answer.{Answer}

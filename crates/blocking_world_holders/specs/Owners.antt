@@ -22,9 +22,9 @@ use Rattle.blocking_core.specs.declared.job.write.WriteAnswer.TheVariants as wro
 use Rattle.blocking_core.specs.declared.job.seek.SeekAction.{SeekAction}
 use Rattle.blocking_core.specs.declared.job.seek.SeekAction.TheVariants as seek
 use Rattle.blocking_core.specs.declared.job.seek.SeekAnswer.TheVariants as sought
-use Rattle.blocking_core.specs.declared.job.operation.OpAction.{OpAction}
-use Rattle.blocking_core.specs.declared.job.operation.OpAction.TheVariants as operation
-use Rattle.blocking_core.specs.declared.job.operation.OpAnswer.TheVariants as ran
+use Rattle.blocking_core.specs.declared.job.op.OpAction.{OpAction}
+use Rattle.blocking_core.specs.declared.job.op.OpAction.TheVariants as operation
+use Rattle.blocking_core.specs.declared.job.op.OpAnswer.TheVariants as ran
 use Rattle.blocking_core.specs.declared.unblock.OwnerAction.{OwnerAction}
 use Rattle.blocking_core.specs.declared.unblock.OwnerAction.TheVariants as action
 use Rattle.blocking_core.specs.declared.unblock.OwnerAnswer.{OwnerAnswer}

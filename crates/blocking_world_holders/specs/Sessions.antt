@@ -19,9 +19,9 @@ use Rattle.blocking_world_laws.specs.JobTable.{Kind, Streaming, piece as largest
 use Rattle.blocking_core.specs.declared.job.seek.SeekAction.{SeekAction}
 use Rattle.blocking_core.specs.declared.job.seek.SeekAction.TheVariants as seek
 use Rattle.blocking_core.specs.declared.job.seek.SeekAnswer.TheVariants as sought
-use Rattle.blocking_core.specs.declared.job.operation.OpAction.{OpAction}
-use Rattle.blocking_core.specs.declared.job.operation.OpAction.TheVariants as operation
-use Rattle.blocking_core.specs.declared.job.operation.OpAnswer.TheVariants as ran
+use Rattle.blocking_core.specs.declared.job.op.OpAction.{OpAction}
+use Rattle.blocking_core.specs.declared.job.op.OpAction.TheVariants as operation
+use Rattle.blocking_core.specs.declared.job.op.OpAnswer.TheVariants as ran
 use Rattle.blocking_world_laws.specs.Places.{seen_room, seen_put, seen_peek}
 use Rattle.blocking_world_laws.specs.Seats.{waker_in}
 use Rattle.blocking_world_laws.specs.declared.event.Act.{Act}

@@ -2,7 +2,7 @@
 pub use Rattle.blocking_core.specs.declared.io.Fault.{Fault}
 pub use Rattle.blocking_core.specs.declared.job.Action.{Action}
 pub use Rattle.blocking_core.specs.declared.job.item.ItemAction.{ItemAction}
-pub use Rattle.blocking_core.specs.declared.job.operation.OpAction.{OpAction}
+pub use Rattle.blocking_core.specs.declared.job.op.OpAction.{OpAction}
 pub use Rattle.blocking_core.specs.declared.job.read.ReadAction.{ReadAction}
 pub use Rattle.blocking_core.specs.declared.job.seek.SeekAction.{SeekAction}
 pub use Rattle.blocking_core.specs.declared.job.write.WriteAction.{WriteAction}

@@ -41,7 +41,7 @@ pub struct OpCore {
 
 impl Model for OpCore {
     ghost use Rattle.blocking_core.specs.Machines.{Machine};
-    ghost use Rattle.blocking_core.specs.declared.job.operation.OpAction.{OpAction};
+    ghost use Rattle.blocking_core.specs.declared.job.op.OpAction.{OpAction};
 
     ghost Value = { Machine OpAction };
 

@@ -6,7 +6,7 @@ use Rattle.blocking_world_state.proofs.Types.{Fault, ItemAction, OpAction, ReadA
 use Rattle.blocking_world_state.proofs.Words.{item_next, operation_next, room, Met, Served, Waiting, peek, read_next, seek_next, after_put, write_next, FindRoom, Peek, SendItem, waker_in, is_of_pool, is_nothing, is_answered, may_act, Owner, Worked, worked_by, calls_waker, read_in, read_as, write_in, write_as, stream_in, stream_as, seek_in, seek_as, operate_in, operate_as, worked, Goods, OfBytes, OfItems, through, Session, found_room, session_after_room, found_put, session_after_put, fits_in, closing_wakes, finish_wakes, session_after_job_close, session_after_finish, front, found_piece, session_after_peek, holds, session_after_consume, Work, work_at_put, work_by, work_of_consume, writer_works, found_send, session_after_send, streamer_works, result_wakes, bytes_of, is_first}
 use Rattle.blocking_core.specs.Places.{hand_in}
 use Rattle.blocking_core.specs.declared.job.item.ItemAction.TheVariants as item
-use Rattle.blocking_core.specs.declared.job.operation.OpAction.TheVariants as operation
+use Rattle.blocking_core.specs.declared.job.op.OpAction.TheVariants as operation
 use Rattle.blocking_core.specs.declared.job.read.ReadAction.TheVariants as read
 use Rattle.blocking_core.specs.declared.job.seek.SeekAction.TheVariants as seek
 use Rattle.blocking_core.specs.declared.job.write.WriteAction.TheVariants as write

@@ -1,9 +1,9 @@
 use Rattle.std.proofs.Common.{◌≡◌, ap, sym, subst, refl}
 use Rattle.blocking_core.specs.Machines.{Machine}
 use Rattle.blocking_core.specs.Ops.{operation_next, operation_after}
-use Rattle.blocking_core.specs.declared.job.operation.OpAction.{OpAction}
-use Rattle.blocking_core.specs.declared.job.operation.OpAction.TheVariants.{Deliver}
-use Rattle.blocking_core.specs.declared.job.operation.OpAnswer.TheVariants as by
+use Rattle.blocking_core.specs.declared.job.op.OpAction.{OpAction}
+use Rattle.blocking_core.specs.declared.job.op.OpAction.TheVariants.{Deliver}
+use Rattle.blocking_core.specs.declared.job.op.OpAnswer.TheVariants as by
 use Rattle.blocking_unblock_jobs.specs.Works.{IsKept}
 use Rattle.blocking_unblock_jobs.specs.OpJobs.{Fits, HasPut}
 use Rattle.blocking_unblock_jobs.proofs.Delivered.{delivered}

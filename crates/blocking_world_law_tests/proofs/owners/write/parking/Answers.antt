@@ -10,7 +10,7 @@ use Rattle.blocking_world_laws.specs.Seen.{own}
 use Rattle.blocking_world_laws.specs.Sessions.{is_shut}
 use Rattle.blocking_world_laws.specs.declared.event.Act.TheVariants.{JobParked}
 use Rattle.blocking_world_laws.specs.declared.event.Event.{Event}
-use Rattle.blocking_world_law_tests.proofs.owners.writing.parking.Goals as goal
+use Rattle.blocking_world_law_tests.proofs.owners.write.parking.Goals as goal
 
 nothing_there : (within : List ℕ) (shut : Bool) → JobParked ≡ seen_peek (peek piece within (not shut)) → (within ≡ []) × (shut ≡ false)
 nothing_there [] false e = (refl, refl)

@@ -1,7 +1,7 @@
 -- The first owner waits for the first job, and nothing woke either.
 use Rattle.std.proofs.Common.{◌≡◌, true, false, refl, inl, inr}
 use mathlib.Core.Logic.{◌⊎◌}
-use Rattle.blocking_world_law_tests.proofs.owners.writing.wakes.Goals as goal
+use Rattle.blocking_world_law_tests.proofs.owners.write.wakes.Goals as goal
 
 never : (false ≡ true) ⊎ (false ≡ true) → ⊥
 never (inl told) = cc

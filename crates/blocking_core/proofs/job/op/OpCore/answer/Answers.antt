@@ -1,6 +1,6 @@
 -- An edit makes this false. With an answer of its own it is refused without a second search.
 use Rattle.std.proofs.Common.{rules}
-use Rattle.blocking_core.proofs.job.operation.OpCore.answer.Goals as goal
+use Rattle.blocking_core.proofs.job.op.OpCore.answer.Goals as goal
 
 pub returns : goal.returns
 returns c = search rules
