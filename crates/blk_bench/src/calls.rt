@@ -233,6 +233,8 @@ impl<R: Host> HeldUp<R> {
         let flag = Arc::new(host.alloc(), AtomicBool::new(false))?;
         let until = Work::Until(rt, Arc::try_clone(&flag)?);
         let first = begun_for(executor, HELD_UP, until)?;
+        // (at its limit before the others are queued, so that the pool doesn't grow for them)
+        await_taken(host, executor);
         let mut tasks = Vec::with_capacity(host.alloc(), QUEUED)?;
         for n in 0..QUEUED {
             tasks.push(begun_for(executor, HELD_UP, Work::Succeed(n as u64))?)?;
@@ -246,6 +248,16 @@ impl<R: Host> HeldUp<R> {
         flag.store(true, Ordering::SeqCst);
         first.detach();
         await_all(host, tasks, None)
+    }
+}
+
+// Waits until no job is queued.
+fn await_taken<R: Host>(host: R, executor: &Workers<R>) {
+    for _ in host.forever() {
+        if executor.counts().queued == 0 {
+            return;
+        }
+        thread::yield_now();
     }
 }
 
