@@ -1,5 +1,5 @@
 -- What is known of the clients that have jobs.
-use Rattle.std.specs.Prelude.{◌≡◌, ℕ, ◌+◌, ◌-◌, ◌≤◌, ◌==◌, if◌then◌else◌, List, ◌∷◌, unwrap_or, refl}
+use Rattle.std.specs.Prelude.{◌≡◌, ℕ, ◌+◌, ◌-◌, ◌≤◌, ◌==◌, if◌then◌else◌, List, ◌∷◌, map, unwrap_or, refl}
 use Rattle.std.specs.Ordering.{nat_cmp}
 use Rattle.std.specs.FinMap.{FinMap, get, len, code, from_entries}
 use Rattle.std.specs.Coded.{Coded, code_by, coded×, coded_ℕ}
@@ -63,6 +63,10 @@ pub record AreAll (known : Known) (entries : List (ℕ × Client)) : Type 0 wher
   pub known_are : known ≡ from_entries entries
   pub once : IsOnce (keys_of entries)
 
--- the clients that are known beside client 0
-abbrev pub AreNamed : Known → List (ℕ × Client) → Type 0
-AreNamed known entries = AreAll known ((0, client_at known 0) ∷ entries)
+-- these clients, with what is known of them
+abbrev pub as_known : Known → List (ℕ × Client) → List (ℕ × Client)
+as_known known entries = map (λ entry. (entry.0, client_at known entry.0)) entries
+
+-- the names of the clients that are known beside client 0, each once, stand in these entries
+abbrev pub HasNames : Known → List (ℕ × Client) → Type 0
+HasNames known entries = AreAll known ((0, client_at known 0) ∷ as_known known entries)

@@ -2,7 +2,7 @@
 ghost use Rattle.std.specs.Prelude.{◌≡◌, ◌≢◌, ◌<◌, ◌||◌, ◌&&◌, ◌==◌, not, ℕ, true, is_some, nat_lt, OnOk};
 ghost use Rattle.std.specs.FinMap.{get, insert, len};
 ghost use Rattle.blocking_pool.specs.Growth.{greatest};
-ghost use Rattle.blocking_pool.specs.ClientTable.{client_at, no_client, with_job, without_job, with_running, without_running, Forgets, AreNamed};
+ghost use Rattle.blocking_pool.specs.ClientTable.{client_at, no_client, with_job, without_job, with_running, without_running, Forgets, HasNames};
 
 use std::alloc::{AllocError, Global};
 use std::collections::HashMap;
@@ -39,16 +39,30 @@ const NO_CLIENT: Client = Client {
     running: 0,
 };
 
+// A client that is named, and what is known of it. Where the name is 0 there is none.
+#[derive(Clone, Copy)]
+struct Named {
+    name: u32,
+    state: Client,
+}
+
+// No client that is named.
+const NOBODY: Named = Named {
+    name: 0,
+    state: NO_CLIENT,
+};
+
 /// The clients that have jobs. Client 0, that of jobs for which none is named, is always known: it takes no memory and no
-/// look-up.
+/// look-up. Nor does the named client that was set last: what the map has of it is written back once another is set.
 #[derive(Drop)]
 pub(crate) struct Clients {
     unnamed: Client,
+    recent: Named,
     named: HashMap<u32, Client>,
 }
 
 impl Model for Clients {
-    ghost use Rattle.std.specs.Prelude.{◌≡◌, nat_eq, None};
+    ghost use Rattle.std.specs.Prelude.{◌≡◌, ◌≢◌, ◌∷◌, nat_eq, None, IsSome};
     ghost use Rattle.std.specs.HashMap as hash;
     ghost use Rattle.std.specs.FinMap.{insert, from_entries};
     ghost use Rattle.blocking_pool.specs.ClientTable.{Clients as Seen, clients_code};
@@ -58,12 +72,12 @@ impl Model for Clients {
     ghost coded = { clients_code };
 
     ghost view = { λ c. record {
-      known = insert (from_entries c.named.entries) 0 c.unnamed;
+      known = insert (from_entries ((c.recent.name, c.recent.state) ∷ c.named.entries)) 0 c.unnamed;
       spare = hash.spare c.named;
     } };
 
-    // Client 0 isn't among those that are named, and none of these stands there twice.
-    ghost invariant = { λ c. (hash.get nat_eq c.named 0 ≡ None) × hash.IsUnique nat_eq c.named };
+    // Client 0 isn't in the map, no client stands there twice, and the one that was set last does.
+    ghost invariant = { λ c. (hash.get nat_eq c.named 0 ≡ None) × hash.IsUnique nat_eq c.named × (c.recent.name ≢ 0 → IsSome (hash.get nat_eq c.named c.recent.name)) };
 }
 
 impl Clients {
@@ -73,6 +87,7 @@ impl Clients {
     {
         Clients {
             unnamed: NO_CLIENT,
+            recent: NOBODY,
             named: HashMap::new(alloc),
         }
     }
@@ -89,6 +104,9 @@ impl Clients {
     pub(crate) fn knows(&self, client: u32) -> bool
         ensures { result ≡ is_some (get self.now.known client) }
     {
+        if client == self.recent.name {
+            return true;
+        }
         client == 0 || self.named.contains_key(&client)
     }
 
@@ -100,15 +118,18 @@ impl Clients {
         if client == 0 {
             return self.unnamed;
         }
+        if client == self.recent.name {
+            return self.recent.state;
+        }
         match self.named.get(&client) {
             Some(state) => *state,
             None => NO_CLIENT,
         }
     }
 
-    /// The clients that are known, without client 0.
+    /// The clients that are known, without client 0, by their names. (of one of them the map may have what was known before)
     pub(crate) fn named(&self) -> &HashMap<u32, Client>
-        ensures { AreNamed self.now.known result.now.entries }
+        ensures { HasNames self.now.known result.now.entries }
     {
         &self.named
     }
@@ -132,7 +153,31 @@ impl Clients {
             self.unnamed = state;
             return;
         }
+        if client == self.recent.name {
+            self.recent.state = state;
+            return;
+        }
+        self.set_named(client, state);
+    }
+
+    // The same of a client that is named. What was known of the one that was set last is written back.
+    fn set_named(&mut self, client: u32, state: Client)
+        requires named { client ≢ 0 }
+        requires seat { (is_some (get self.old.known client) || nat_lt 0 self.old.spare) ≡ true }
+        ensures { self.new.known ≡ insert self.old.known client state }
+    {
         let Ok(_) = self.named.insert(client, state) else {
+            unreachable!()
+        };
+        let last = self.recent;
+        self.recent = Named {
+            name: client,
+            state,
+        };
+        if last.name == 0 {
+            return;
+        }
+        let Ok(_) = self.named.insert(last.name, last.state) else {
             unreachable!()
         };
     }
@@ -214,5 +259,9 @@ impl Clients {
         ensures { Forgets self.old self.new client }
     {
         self.named.remove(&client);
+        if client != self.recent.name {
+            return;
+        }
+        self.recent = NOBODY;
     }
 }

@@ -8,7 +8,7 @@ ghost use Rattle.std.specs.Prelude.{◌≡◌, ◌+◌, ◌-◌, ◌<◌, ◌≤
 ghost use Rattle.blocking_pool.specs.Lists.{is_in};
 ghost use Rattle.blocking_pool.specs.Growth.{greatest};
 ghost use Rattle.blocking_pool.specs.Clients.{tally_at, no_jobs, has_room_at, enrolled, stopped, discharged};
-ghost use Rattle.blocking_pool.specs.ClientTable.{AreAll};
+ghost use Rattle.blocking_pool.specs.ClientTable.{AreAll, as_known};
 ghost use Rattle.blocking_pool.specs.Hangs.{one_if};
 ghost use Rattle.blocking_pool.specs.Queue.{line_in, ready_in, has_seat, Widens, Tallied, Holds, TakesReady};
 ghost use Rattle.blocking_pool.specs.QueueForm.{admits, number_by, Appends, longer, taken_from, head_of, ready_at, heads_of, ready_among, Fits, AreAnew, Renumbers, HaveNoLines, HaveLinesOf, AreHeld, SameCounts, LinesUp};
@@ -142,22 +142,23 @@ fn admit(
     client.line.len
 }
 
-// The same for each client that is named.
+// The same for each client whose name stands in these entries.
 fn admit_named(
     heads: &mut Heads,
     spots: &[Spot],
     limit: Option<usize>,
+    clients: &Clients,
     named: &HashMap<u32, Client>,
 ) -> usize
-    requires fits { Fits spots.now limit (heads.old.room - length heads.old.heads) named.now.entries }
+    requires fits { Fits spots.now limit (heads.old.room - length heads.old.heads) (as_known clients.now.known named.now.entries) }
     requires room { length heads.old.heads ≤ heads.old.room }
-    ensures heads { IsPermutation (heads_of (number_by spots.now) limit named.now.entries ++ heads.old.heads) heads.new.heads }
+    ensures heads { IsPermutation (heads_of (number_by spots.now) limit (as_known clients.now.known named.now.entries) ++ heads.old.heads) heads.new.heads }
     ensures kept { heads.old.room ≤ heads.new.room }
-    ensures ready { result ≡ ready_among limit named.now.entries }
+    ensures ready { result ≡ ready_among limit (as_known clients.now.known named.now.entries) }
 {
     let mut ready = 0;
-    for (name, client) in named {
-        ready += admit(heads, spots, limit, *name, *client);
+    for (name, _) in named {
+        ready += admit(heads, spots, limit, *name, clients.get(*name));
     }
     ready
 }
@@ -168,7 +169,7 @@ fn heads_anew(heads: &mut Heads, spots: &[Spot], limit: Option<usize>, clients: 
     ensures { AreAnew clients.now.known spots.now limit heads.old heads.new result }
 {
     heads.clear();
-    let ready = admit_named(heads, spots, limit, clients.named());
+    let ready = admit_named(heads, spots, limit, clients, clients.named());
     ready + admit(heads, spots, limit, 0, clients.get(0))
 }
 
