@@ -5,7 +5,7 @@ ghost use Rattle.rtrb.specs.Ring.{received as received_from, known_items};
 
 use super::ByPlace;
 use super::kept::SeenEnd;
-use super::pace::{Pace, pause};
+use super::pace::Pace;
 use super::shared::{Asked, NotEnded, OwnerSeat, Shared};
 use crate::rule::PlaceRule;
 use blocking_core::pipe::Received;
@@ -15,9 +15,6 @@ use futures::task::{Context, Poll, Source};
 use rtrb::Consumer;
 use std::alloc::Global;
 use std::sync::{Arc, Wait};
-
-// How long an owner turns before it looks once more and is seated: less than a microsecond.
-const TURNS: u32 = 24;
 
 /// The end of an owner that receives items from its job, under no lock: the item from each place holds there, by the rule `R`.
 ///
@@ -183,10 +180,6 @@ impl<X: Drop, R: PlaceRule<X>, H: Wait + Copy> ItemRecvEnd<X, R, H> {
         ensures kept { Keeps cx.old cx.new }
     {
         // stream: PollAgain, unless this poll began with a look that takes no seat
-        if let Ok(answer) = self.look(()) {
-            return answer;
-        }
-        pause(TURNS);
         if let Ok(answer) = self.look(()) {
             return answer;
         }

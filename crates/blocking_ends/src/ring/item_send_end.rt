@@ -4,7 +4,7 @@ ghost use Rattle.rtrb.specs.Ring.{sent as sent_into, known_free};
 
 use super::ByPlace;
 use super::kept::{JobSeated, ToldEnd};
-use super::pace::{Pace, pause};
+use super::pace::Pace;
 use super::shared::{Again, SeenShut, Shared};
 use crate::rule::PlaceRule;
 use blocking_pool::pool::JobNo;
@@ -12,13 +12,6 @@ use blocking_sync::OwnerWaker;
 use rtrb::Producer;
 use std::alloc::Global;
 use std::sync::{Arc, Wait};
-use std::thread::yield_now;
-
-// How often a job looks for room before it is seated, and how long it turns before each look. Between two looks another thread may run, so where
-// there is one processor the owner does.
-const LOOKS: u32 = 16;
-
-const TURNS: u32 = 4;
 
 /// How a send into an item ring ends.
 #[derive(Drop)]
@@ -43,8 +36,6 @@ pub enum WhyUnsent {
 }
 
 /// The end of a job that sends items to its owner, under no lock: each item holds at its place, by the rule `R`.
-///
-/// A job that finds the ring full looks for room for some microseconds before it is seated.
 ///
 /// A waker that a call answers was taken out of its seat, and is to be called. One that is let go calls itself.
 ///
@@ -125,22 +116,6 @@ impl<X: Drop, R: PlaceRule<X>, H: Wait + Copy> ItemSendEnd<X, R, H> {
         seen > 0
     }
 
-    // Whether there is room within some microseconds.
-    fn finds_room_soon(&mut self) -> bool
-        ensures room { result ≡ true → 0 < known_free self.new.producer }
-        ensures sent { self.new.sent ≡ self.old.sent }
-        ensures closed { self.new.closed ≡ self.old.closed }
-    {
-        for _ in 0..LOOKS {
-            pause(TURNS);
-            yield_now();
-            if self.producer.slots() > 0 {
-                return true;
-            }
-        }
-        false
-    }
-
     // Puts an item where there is room. Answers the waker of an owner who waits.
     fn put(&mut self, item: X) -> Option<OwnerWaker>
         requires room { 0 < known_free self.old.producer }
@@ -174,7 +149,7 @@ impl<X: Drop, R: PlaceRule<X>, H: Wait + Copy> ItemSendEnd<X, R, H> {
         if let Some(seen) = self.shared.owner_shut() {
             return ItemSending::Unsent(item, WhyUnsent::OwnerShut(seen));
         }
-        if self.has_room() || self.finds_room_soon() {
+        if self.has_room() {
             return ItemSending::Sent(self.put(item));
         }
         let seat = self.shared.seat_job(&self.rt, me);

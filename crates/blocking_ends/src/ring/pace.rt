@@ -9,13 +9,6 @@ const FEW: usize = 32;
 // How often a side turns that lets the other get ahead: half a microsecond to one and a half, as a turn takes 3 to 11 ns.
 const TURNS: u32 = 120;
 
-/// Turns so often, each time for some nanoseconds.
-pub(super) fn pause(turns: u32) {
-    for _ in 0..turns {
-        spin_loop();
-    }
-}
-
 /// Whether two sides of a ring go in step. One that is just behind the other fetches what the other has just written, for each item anew. Where a
 /// look at the other's place shows only few items, or few places, it waits for a moment before its next look, so that it finds more.
 #[derive(Clone, Copy)]
@@ -34,8 +27,11 @@ impl Pace {
 
     /// Before a look.
     pub(super) fn wait(&self) {
-        if self.is_in_step {
-            pause(TURNS);
+        if !self.is_in_step {
+            return;
+        }
+        for _ in 0..TURNS {
+            spin_loop();
         }
     }
 
