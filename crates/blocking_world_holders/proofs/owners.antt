@@ -10,11 +10,15 @@ pub mod SeekSessions
 pub mod OpSessions
 pub mod Results
 pub mod Drains
+pub mod Receives
 pub mod Fills
 pub mod Goods
 pub mod States
 pub mod Asked
 pub mod Cuts
+pub mod Polls
+pub mod Returns
+pub mod Replies
 pub mod OwnerActs
 pub mod PoolAnswers
 pub mod Jobs

@@ -61,14 +61,14 @@ use Rattle.blocking_world_holders.specs.declared.owner.OwnerStage.{OwnerStage}
 use Rattle.blocking_world_holders.specs.declared.owner.OwnerStage.TheVariants as stage
 use Rattle.blocking_world_holders.specs.declared.owner.PollEnd.{PollEnd}
 use Rattle.blocking_world_holders.specs.declared.owner.PollEnd.TheVariants as poll_end
-use Rattle.blocking_world_holders.specs.declared.session.Awaited.{Awaited}
-use Rattle.blocking_world_holders.specs.declared.session.Awaited.TheVariants as awaited
-use Rattle.blocking_world_holders.specs.declared.session.Entered.{Entered}
-use Rattle.blocking_world_holders.specs.declared.session.Entered.TheVariants as entered
-use Rattle.blocking_world_holders.specs.declared.session.Found.{Found}
-use Rattle.blocking_world_holders.specs.declared.session.Found.TheVariants as found
-use Rattle.blocking_world_holders.specs.declared.session.Obtained.{Obtained}
-use Rattle.blocking_world_holders.specs.declared.session.Obtained.TheVariants as obtained
+use Rattle.blocking_world_holders.specs.declared.session.op.Awaited.{Awaited}
+use Rattle.blocking_world_holders.specs.declared.session.op.Awaited.TheVariants as awaited
+use Rattle.blocking_world_holders.specs.declared.session.write.Entered.{Entered}
+use Rattle.blocking_world_holders.specs.declared.session.write.Entered.TheVariants as entered
+use Rattle.blocking_world_holders.specs.declared.session.read.Found.{Found}
+use Rattle.blocking_world_holders.specs.declared.session.read.Found.TheVariants as found
+use Rattle.blocking_world_holders.specs.declared.session.item.Obtained.{Obtained}
+use Rattle.blocking_world_holders.specs.declared.session.item.Obtained.TheVariants as obtained
 use Rattle.blocking_world_holders.specs.declared.session.Looked.{Looked}
 use Rattle.blocking_world_holders.specs.declared.session.Looked.TheVariants as looked
 use Rattle.blocking_pool.specs.Jobs.{JobNumber}

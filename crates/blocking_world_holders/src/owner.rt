@@ -4,7 +4,13 @@ ghost use Rattle.std.specs.Prelude.{◌≡◌, ◌<◌, ◌==◌, if◌then◌el
 ghost use Rattle.blocking_core.specs.declared.unblock.OwnerAction.TheVariants as action;
 ghost use Rattle.blocking_world_holders.specs.Sessions.{serial_of};
 ghost use Rattle.blocking_world_holders.specs.Owners.{poll_call_of, reply_as, back_answer};
-ghost use Rattle.blocking_world_laws.specs.Sessions.{is_again, is_into_inner, is_operation};
+ghost use Rattle.blocking_world_laws.specs.Sessions.{is_again, is_into_inner};
+
+mod item;
+mod op;
+mod read;
+mod seek;
+mod write;
 
 use crate::item::ItemProgress;
 use crate::job::SessionJob;
@@ -12,10 +18,9 @@ use crate::op::OpProgress;
 use crate::passage::Passage;
 use crate::read::ReadProgress;
 use crate::seek::SeekProgress;
-use crate::session::{Awaited, Entered, Found, Looked, Obtained, Session};
+use crate::session::{Looked, Session};
 use crate::write::WriteProgress;
 use blocking_core::io::Fault;
-use blocking_core::job::{ItemAction, OpAction, ReadAction, SeekAction, WriteAction};
 use blocking_core::pipe::{DEFAULT_BYTES, DEFAULT_ITEMS, Pipe};
 use blocking_core::pool::{JobNo, Refusal, WakeNote};
 use blocking_core::unblock::{
@@ -157,13 +162,6 @@ fn is_again(call: &HandleCall) -> bool
     matches!(call, HandleCall::OperateAgain)
 }
 
-// Whether this asks for an operation, or for its result.
-fn is_operation(asked: &Option<HandleCall>) -> bool
-    ensures { result ≡ is_operation asked.now }
-{
-    matches!(asked, Some(HandleCall::Operate | HandleCall::OperateAgain))
-}
-
 // Whether a call asks for the handle for good.
 fn is_into_inner(call: &HandleCall) -> bool
     ensures { result ≡ is_into_inner (Some call.now) }
@@ -194,12 +192,10 @@ impl Owner {
     ghost use Rattle.std.specs.Prelude.{vec_len, IfOk, OnErr, Some};
     ghost use Rattle.blocking_core.specs.Pipes.{empty_pipe};
     ghost use Rattle.blocking_world_holders.specs.Passages.{goods_in, pipe_in};
-    ghost use Rattle.blocking_world_holders.specs.Owners.{new_owner, capacity_asked, goods_asked, is_resting, is_gone, stage_after_reply, note_at, next_of, number_of, bytes_in, rests};
-    ghost use Rattle.blocking_world_holders.specs.Owners.{owner_after_ask, did, did_in, reply_did, IsDid, goes_on, reach_in};
+    ghost use Rattle.blocking_world_holders.specs.Owners.{new_owner, capacity_asked, goods_asked, is_gone, stage_after_reply, note_at, next_of, number_of, bytes_in, rests};
+    ghost use Rattle.blocking_world_holders.specs.Owners.{owner_after_ask, did, did_in, reply_did, IsDid, goes_on};
     ghost use Rattle.blocking_world_holders.specs.Owners.{owner_after_begin, owner_after_refusal, owner_after_delivery, owner_after_drop};
-    ghost use Rattle.blocking_world_laws.specs.Sessions.{is_again, is_operation};
-    ghost use Rattle.blocking_world_holders.specs.Owners.{may_ask, may_ask_at, awaits_operation, front_in, fill_did_in, item_in, drop_did, new_job_of, worked, IsWorked, give_up_act, owner_after_give_up};
-    ghost use Rattle.blocking_world_holders.specs.declared.job.SessionJob.TheVariants as of_job;
+    ghost use Rattle.blocking_world_holders.specs.Owners.{may_ask, may_ask_at, item_in, drop_did, new_job_of, worked, IsWorked, give_up_act, owner_after_give_up};
 
     /// An owner of this client, with an idle handle. The pipes of its sessions hold so many bytes or items; 0 stands for 8,388,608 bytes and
     /// 8,192 items.
@@ -257,16 +253,6 @@ impl Owner {
         self.may_begin(call)
             && (!self.was_asked_inner() || is_into_inner(call))
             && (!is_again(call) || self.awaits_operation())
-    }
-
-    // Whether an operation is pending: it was asked for one, and waits.
-    fn awaits_operation(&self) -> bool
-        ensures { result ≡ awaits_operation self.now.stage self.now.asked }
-    {
-        match &self.stage {
-            OwnerStage::Rests(_, end) => end.is_pending() && is_operation(&self.asked),
-            _ => false,
-        }
     }
 
     // Whether its handle was asked for for good, which then its last call does.
@@ -341,16 +327,6 @@ impl Owner {
     {
         match &self.session {
             Some(session) => session.item(),
-            None => 0,
-        }
-    }
-
-    // How many bytes come out where it wants at most so many.
-    fn reach(&self, most: usize) -> usize
-        ensures { result ≡ reach_in most self.now.session }
-    {
-        match &self.session {
-            Some(session) => session.reach(most),
             None => 0,
         }
     }
@@ -460,112 +436,6 @@ impl Owner {
         Some(Act::OwnerClosed(serial))
     }
 
-    // It drains the pipe, out of which this many bytes come.
-    fn drain(&mut self, poll: OwnerCall<u64>, room: Vec<u8>) -> Option<Act>
-        requires awake { note_at self.old.stage ≡ None }
-        requires room { (most : _) × (vec_len room ≡ reach_in most self.old.session) }
-        ensures { (most : _) → vec_len room ≡ reach_in most self.old.session
-            → IsDid (did_in (action.Drain most) poll self.old.session self.old) self.old result self.new }
-    {
-        let Some(session) = &mut self.session else {
-            return None;
-        };
-        if !session.is_of_bytes() {
-            return None;
-        }
-        let mut poll = poll;
-        match session.drain(room) {
-            Found::Bytes(bytes, note) => {
-                let serial = serial_of(&note);
-                poll.answer(OwnerAnswer::Got {
-                    count: bytes.as_slice().len(),
-                    has_note: serial.is_some(),
-                });
-                self.go_on(poll, note);
-                Some(Act::Got(bytes, serial))
-            }
-            Found::End => {
-                poll.answer(OwnerAnswer::Ended);
-                self.set_stage(OwnerStage::Polls(poll));
-                Some(Act::GotEnd)
-            }
-            Found::Nothing => {
-                self.set_stage(OwnerStage::Rests(poll.state(), PollEnd::Waits));
-                Some(Act::Waits)
-            }
-        }
-    }
-
-    // It receives an item, which is kept until the reply.
-    fn receive(&mut self, poll: OwnerCall<u64>) -> Option<Act>
-        requires { note_at self.old.stage ≡ None }
-        ensures { IsDid (did_in action.Receive poll self.old.session self.old) self.old result self.new }
-    {
-        let Some(session) = &mut self.session else {
-            return None;
-        };
-        if !session.is_of_items() {
-            return None;
-        }
-        let mut poll = poll;
-        match session.receive() {
-            Obtained::Item(item, note) => {
-                let serial = serial_of(&note);
-                poll.answer(OwnerAnswer::Received {
-                    has_note: serial.is_some(),
-                });
-                self.go_on(poll, note);
-                Some(Act::GotItem(item, serial))
-            }
-            Obtained::End => {
-                poll.answer(OwnerAnswer::Ended);
-                self.set_stage(OwnerStage::Polls(poll));
-                Some(Act::GotEnd)
-            }
-            Obtained::Nothing => {
-                self.set_stage(OwnerStage::Rests(poll.state(), PollEnd::Waits));
-                Some(Act::Waits)
-            }
-        }
-    }
-
-    // It fills the pipe with the bytes that it was asked to write.
-    fn fill(&mut self, poll: OwnerCall<u64>) -> Option<Act>
-        requires { note_at self.old.stage ≡ None }
-        ensures { IsDid (fill_did_in poll self.old.asked self.old.session self.old) self.old result self.new }
-    {
-        let Some(HandleCall::Write(bytes)) = &self.asked else {
-            return None;
-        };
-        let Some(session) = &mut self.session else {
-            return None;
-        };
-        if bytes.as_slice().is_empty() || !session.is_of_bytes() {
-            return None;
-        }
-        let mut poll = poll;
-        match session.fill(bytes.as_slice()) {
-            Entered::Bytes(count, note) => {
-                let serial = serial_of(&note);
-                poll.answer(OwnerAnswer::Took {
-                    count,
-                    has_note: serial.is_some(),
-                });
-                self.go_on(poll, note);
-                Some(Act::Filled(count, serial))
-            }
-            Entered::Shut => {
-                poll.answer(OwnerAnswer::Shut);
-                self.set_stage(OwnerStage::Polls(poll));
-                Some(Act::FillShut)
-            }
-            Entered::Nothing => {
-                self.set_stage(OwnerStage::Rests(poll.state(), PollEnd::Waits));
-                Some(Act::Waits)
-            }
-        }
-    }
-
     // It drops the handle, which is with it, and replies that all is done.
     fn drop_handle(&mut self, poll: OwnerCall<u64>) -> Option<Act>
         requires { note_at self.old.stage ≡ None }
@@ -600,29 +470,6 @@ impl Owner {
         }
     }
 
-    // It looks for the result of its operation, which is kept until the reply.
-    fn find_result(&mut self, poll: OwnerCall<u64>) -> Option<Act>
-        requires { note_at self.old.stage ≡ None }
-        ensures { IsDid (did_in action.PollResult poll self.old.session self.old) self.old result self.new }
-    {
-        let Some(session) = &mut self.session else {
-            return None;
-        };
-        match session.find_result() {
-            Awaited::Result(number) => {
-                let mut poll = poll;
-                poll.answer(OwnerAnswer::Resulted);
-                self.set_stage(OwnerStage::Polls(poll));
-                Some(Act::ResultGot(number))
-            }
-            Awaited::Nothing => {
-                self.set_stage(OwnerStage::Rests(poll.state(), PollEnd::WaitsForResult));
-                Some(Act::Waits)
-            }
-            Awaited::Gone => None,
-        }
-    }
-
     /// The job of the session that its poll begins, as was asked. Takes no memory.
     pub fn new_job(&self, alloc: Global) -> SessionJob
         ensures { result ≡ new_job_of self.now }
@@ -635,16 +482,6 @@ impl Owner {
                 SessionJob::Operate(OpProgress::new())
             }
             _ => SessionJob::Read(ReadProgress::new(alloc)),
-        }
-    }
-
-    /// How many bytes a job of its session finds that looks at the front of the pipe.
-    pub fn front(&self) -> usize
-        ensures { result ≡ front_in self.now.session }
-    {
-        match &self.session {
-            Some(session) => session.front(),
-            None => 0,
         }
     }
 
@@ -737,78 +574,6 @@ impl Owner {
             SessionJob::Seek(seek) => Ok(self.seek(seek)),
             SessionJob::Operate(operation) => Ok(self.operate(operation)),
         }
-    }
-
-    // A job that runs an iterator takes its next action.
-    fn stream(&mut self, job: &mut ItemProgress) -> Option<Act>
-        ensures { IsWorked (worked (of_job.Items job.old) self.old) (of_job.Items job.old) self.old result (of_job.Items job.new) self.new }
-    {
-        if let ItemAction::Deliver = job.next() {
-            job.note_wake();
-            return Some(Act::HolderWoken);
-        }
-        let Some(session) = &mut self.session else {
-            return None;
-        };
-        session.stream(job)
-    }
-
-    // A job that reads takes its next action.
-    fn read(&mut self, job: &mut ReadProgress) -> Option<Act>
-        ensures { IsWorked (worked (of_job.Read job.old) self.old) (of_job.Read job.old) self.old result (of_job.Read job.new) self.new }
-    {
-        if let ReadAction::Deliver = job.next() {
-            job.note_wake();
-            return Some(Act::HolderWoken);
-        }
-        let Some(session) = &mut self.session else {
-            return None;
-        };
-        session.read(job)
-    }
-
-    // A job that writes takes its next action.
-    fn write(&mut self, alloc: Global, job: &mut WriteProgress) -> Result<Option<Act>, AllocError>
-        ensures ok { IfOk result (λ seen. IsWorked (worked (of_job.Write job.old) self.old) (of_job.Write job.old) self.old seen
-            (of_job.Write job.new) self.new) }
-        ensures err { OnErr result ((job.new ≡ job.old) × (self.new ≡ self.old)) }
-    {
-        if let WriteAction::Deliver = job.next() {
-            job.note_wake();
-            return Ok(Some(Act::HolderWoken));
-        }
-        let Some(session) = &mut self.session else {
-            return Ok(None);
-        };
-        session.write(alloc, job)
-    }
-
-    // A job that seeks takes its next action.
-    fn seek(&mut self, job: &mut SeekProgress) -> Option<Act>
-        ensures { IsWorked (worked (of_job.Seek job.old) self.old) (of_job.Seek job.old) self.old result (of_job.Seek job.new) self.new }
-    {
-        if let SeekAction::Deliver = job.next() {
-            job.note_wake();
-            return Some(Act::HolderWoken);
-        }
-        let Some(session) = &mut self.session else {
-            return None;
-        };
-        session.seek(job)
-    }
-
-    // A job that runs an operation takes its next action.
-    fn operate(&mut self, job: &mut OpProgress) -> Option<Act>
-        ensures { IsWorked (worked (of_job.Operate job.old) self.old) (of_job.Operate job.old) self.old result (of_job.Operate job.new) self.new }
-    {
-        if let OpAction::Deliver = job.next() {
-            job.note_wake();
-            return Some(Act::HolderWoken);
-        }
-        let Some(session) = &mut self.session else {
-            return None;
-        };
-        session.operate(job)
     }
 
     /// The job of its session gives up: the handle won't come back. What is seen of that.

@@ -7,7 +7,7 @@ use Rattle.blocking_world_holders.proofs.Clashes.{nothing}
 use Rattle.blocking_world_holders.proofs.owners.Cuts.{kind_is}
 use Rattle.blocking_world_holders.proofs.owners.Goods.{piped_here, through_here}
 use Rattle.blocking_world_holders.proofs.owners.PoolAnswers.{pends_so}
-use Rattle.blocking_world_holders.proofs.owners.OwnerActs.{owner_by_parts, bound, doing, fits_at}
+use Rattle.blocking_world_holders.proofs.owners.Polls.{owner_by_parts, bound, doing, fits_at}
 use Rattle.blocking_world_holders.proofs.owners.States.{gone_is, is_lent, lent, lent_at, looks_lent, may_be_asked, open_lent, open_piped}
 use Rattle.blocking_world_holders.proofs.owners.Steps.{its_last}
 use Rattle.blocking_world_holders.proofs.owners.ReadJobs as read_job

@@ -4,7 +4,7 @@ use Rattle.blocking_world_holders.proofs.Types.{HandleCall, ItemAction, OpAction
 use Rattle.blocking_world_holders.proofs.Words.{Acts, Begins, CallsWaker, Closed, Delivers, Did, DoesWork, GivesUp, Goods, IsAnswered, IsAsked, IsDropped, IsRefused, ItemProgress, JobNumber, Met, OfBytes, OfItems, OpProgress, Owner, OwnerMachine, OwnerStep, ReadProgress, SeekProgress, Served, Session, Waiting, Work, WriteProgress, awaited_as, close_did, did_by, did_in, drain_did, drained, fill_did, fill_did_in, filled, find_did, if_piped, item_in, item_next, look_did, looked_as, operate_as, operate_in, operation_next, operation_works, owner_next, owner_after_step as owner_after, owner_after_work, owner_in_step as owner_in, reach, read_as, read_in, read_next, receive_did, received, reply_as, reply_did, seek_as, seek_in, seek_next, seek_works, session_after_find, session_after_look, stream_as, stream_in, streamer_works, through, work_by, worked_by, write_as, write_in, write_next, writer_works}
 use Rattle.blocking_core.specs.Pipes.{Pipe, empty_pipe}
 use Rattle.blocking_world_holders.specs.Owners.{after_ask, after_begin, capacity_asked, did_at, goods_asked}
-use Rattle.blocking_world_holders.specs.declared.session.Awaited.{Awaited}
+use Rattle.blocking_world_holders.specs.declared.session.op.Awaited.{Awaited}
 use Rattle.blocking_world_holders.specs.declared.session.Looked.{Looked}
 
 -- ---- its poll acts

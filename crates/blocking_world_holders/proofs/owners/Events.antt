@@ -3,7 +3,7 @@ use Rattle.std.proofs.Common.{◌≡◌, ℕ, List, [], ◌∷◌, length, Bool,
 use Rattle.blocking_world_holders.proofs.Types.{Fault, ItemAction, OpAction, ReadAction, SeekAction, WriteAction, OwnerAction, Act, Told, HandleCall, SessionJob, OwnerStage}
 use Rattle.blocking_world_holders.proofs.Words.{item_next, operation_next, OwnerMachine, owner_next, Met, Served, read_next, seek_next, Abandoned, Content, GivenUp, write_next, JobNumber, accepted_by, seen_peek, seen_put, seen_room, is_nothing, is_of_pool, is_making, OpProgress, Acts, Begins, Delivers, OwnerStep, DoesWork as Works, act_in, act_of, act_of_work, delivered, Did, Owner, Worked, awaited_as, did, did_by, did_in, drain_did, fill_did, fill_did_in, find_did, item_in, look_did, looked_as, note_at, operate_as, operate_in, read_as, read_in, receive_did, reply_as, reply_did, seek_as, seek_in, stream_as, stream_in, worked, worked_by, write_as, write_in, OfBytes, OfItems, through, ReadProgress, SeekProgress, Session, Work, drained, filled, fits_in, found_piece, found_put, found_room, found_send, holds, reach, received, session_after_find, session_after_look, streamer_works, work_at_put, work_by, work_of_consume, writer_works, ItemProgress, WriteProgress}
 use Rattle.blocking_world_holders.proofs.owners.Goods.{piped_some, through_some}
-use Rattle.blocking_world_holders.proofs.owners.OwnerActs.{value_of}
+use Rattle.blocking_world_holders.proofs.owners.Polls.{value_of}
 
 -- Such an act is seen, and accepts these jobs.
 pub record IsPlain (jobs : List ℕ) (act : Act) : Type 0 where

@@ -7,7 +7,7 @@ use Rattle.blocking_world_holders.proofs.Words.{item_next, operation_next, Pipe,
 use Rattle.blocking_world_laws.specs.OwnerTable as law
 use Rattle.blocking_world_holders.proofs.owners.Jobs.{no_wait}
 use Rattle.blocking_world_holders.proofs.owners.Cuts.{its_kind, kind_is, inside_is, next_stays, room_is, open_is}
-use Rattle.blocking_world_holders.proofs.owners.OwnerActs.{Goes, owner_by_parts, bound}
+use Rattle.blocking_world_holders.proofs.owners.Polls.{Goes, owner_by_parts, bound}
 use Rattle.blocking_world_holders.proofs.owners.ReadJobs.{next_by, action_is, awake, asks}
 use Rattle.blocking_world_holders.proofs.owners.ReadSessions.{At, at, finds, finds_shut, parks, puts, loses, closes, finishes, gives_up, going, some_room, put_is}
 use Rattle.blocking_world_holders.proofs.owners.WriteSessions.{peeks, peek_parks, drains, consumes, writer_answers}

@@ -3,7 +3,7 @@ use Rattle.std.proofs.Common.{◌≡◌, ◌<◌, ◌≤◌, ℕ, zero, suc, Lis
 use Rattle.blocking_world_holders.proofs.Types.{ItemAction, ItemAnswer, OpAction, OpAnswer, ReadAction, ReadAnswer, SeekAction, SeekAnswer, WriteAction, WriteAnswer, Act, Drained, Finished, JobClosed, JobParked, Lost, Put, ResultPut, RoomFree, RoomShut, TakenOut, SessionJob}
 use Rattle.blocking_world_holders.proofs.Words.{item_next, operation_next, room, Closed, Met, Served, Waiting, hand_in, read_next, seek_next, write_next, is_taken, piece, waker_in, OperationAs, OpProgress, Owner, Worked, operate_as, operate_in, read_as, read_in, seek_as, seek_in, stream_as, stream_in, worked, worked_by, write_as, write_in, OfBytes, OfItems, through, ReadProgress, ReadAs, read_action_as, SeekProgress, SeekAs, JobAs, Session, Work, closing_wakes, finish_wakes, fits_in, found_piece, found_put, found_room, found_send, holds, operation_works, result_wakes, seek_works, streamer_closes, streamer_finishes, streamer_works, work_at_peek, work_at_put, work_at_room, work_at_send, work_by, work_of_close, work_of_consume, work_of_finish, writer_closes, writer_finishes, writer_works, ItemAs, ItemProgress, item_action_as, WriteProgress, WriteAs, write_action_as, write_fault_of}
 use Rattle.blocking_world_holders.proofs.owners.Goods.{through_some}
-use Rattle.blocking_world_holders.proofs.owners.OwnerActs.{value_of}
+use Rattle.blocking_world_holders.proofs.owners.Polls.{value_of}
 use Rattle.blocking_world_holders.proofs.owners.ReadSessions.{some_room}
 use Rattle.blocking_world_holders.proofs.owners.WriteSessions.{some_piece}
 use Rattle.blocking_world_holders.proofs.owners.ReadJobs as of_reader

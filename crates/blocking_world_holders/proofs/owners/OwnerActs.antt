@@ -1,130 +1,22 @@
 -- An act of an owner itself, which asks no pool, keeps the law of the owner and its tie.
-use Rattle.std.proofs.Common.{◌≡◌, ℕ, suc, zero, ◌<◌, List, [], ◌∷◌, ◌++◌, length, Bool, true, false, refl, sym, ap, ◌∙◌, subst, arith, Option, Some, None, inl, inr, ◌≤◌, ◌||◌, ◌⊎◌, not, nat_le, max, take, is_some, is_none, if◌then◌else◌, append-nil, length-take}
+use Rattle.std.proofs.Common.{◌≡◌, ℕ, ◌<◌, List, [], ◌∷◌, ◌++◌, length, Bool, true, false, refl, sym, ap, ◌∙◌, subst, arith, Option, Some, None, inl, inr, ◌||◌, ◌⊎◌, not, max, take, is_some, is_none, append-nil, length-take}
 use Rattle.std.proofs.lemmas.Bool.{or_from, or_left, or_right}
-use Rattle.std.proofs.lemmas.Bool.Decides.{nat_tests}
-use Rattle.blocking_world_holders.proofs.Types.{Fault, Position, OwnerAction, OwnerAnswer, OwnerEnd, Open, Shut, PollCall, Reply, SessionKind, State, Act, Answered, Back, FillShut, Filled, Got, GotEnd, GotItem, OwnerClosed, Replied, ResultGot, Waits, Event, Told, Answer, HandleCall, OwnerStage, PollEnd}
-use Rattle.blocking_world_holders.proofs.Words.{Pipe, wake_first, OwnerMachine, owner_after, owner_by, owner_in, owner_next, room, Closed, Met, Served, Waiting, drain, fill, receive, same_position, Abandoned, Content, Empty, Full, GivenUp, Slot, Growth, JobNumber, EndsTruly, IsFlushed, IsFlushedBack, IsFlushedIf, IsReadBack, IsReadWhole, IsTrueEnd, came_back, handle_answers, has_failed_write, has_failure, has_flush, is_failure, last_is_end, JobAction, Kind, Operating, Over, Reading, Seeking, Streaming, Writing, job_earlier as earlier, fault, fault_in, has_closed, has_finished, has_given_up, has_result, is_over, next_but_wake, number, OwnerMayAct, Polls, is_job_seated, noted, pipe_seat, pipe_seated_by, place_of, result_seat, result_seated_by, slot_seat, slot_seated_by, deliver_first, next_of_owner, owner_next_but_wake, accepted, data_of, gave, got, inside, kind_in, last_job, room_in, taken as taken_by, poll_place, poll_slot, seen_drain, seen_fill, seen_receive, acts_of, is_some_worker, own, SeenSession, SeenState, seen_call, seen_ends_close, seen_has_begun, seen_is_closed, seen_is_dropped, seen_is_into_inner, is_operation, seen_is_owner_gone, seen_is_shut, seen_last_session, seen_session, seen_state, seen_state_by, seen_state_in, by_owner, EndAs, FlowAs, FitsNext, GaveAll, GoneBy, HoldsResult, IsAtEnd, IsGoneBy, IsLentOpen, IsOperating, LooksFrom, OperatesBy, OwnerAs, Passed, PassedAs, PlaceBy, PollAs, SessionAs, SlotAs, StageBy, WrittenAs, action_as, called_at, has_found, is_end_open, is_piped_kind, kind_as, passed_by, say, seat_of, state_as, wrote_by, Did, Owner, awaited_as, back_answer, capacity_of, close_did, did, did_by, did_in, drain_did, drop_did, fill_did, fill_did_in, find_did, goes_on, is_gone, is_no_more, item_in, look_did, looked_as, note_at, poll_call_of, receive_did, reply_as, reply_did, stage_after_reply, OfBytes, OfItems, Session, drained, filled, reach, received, serial_of, session_after_close, session_after_drain, session_after_fill, session_after_find, session_after_look, session_after_receive, is_made, under_way, seen_capacity, is_in, jobs_of, is_serial, kind_of_job, is_waiting, StageAs, PlaceIn, LastAs}
+use Rattle.blocking_world_holders.proofs.Types.{Fault, Position, OwnerAction, OwnerAnswer, OwnerEnd, Open, Shut, Reply, SessionKind, State, Act, Back, FillShut, Filled, Got, GotEnd, GotItem, OwnerClosed, ResultGot, Waits, Event, Told, HandleCall, OwnerStage, PollEnd}
+use Rattle.blocking_world_holders.proofs.Words.{Pipe, OwnerMachine, owner_after, room, Closed, Met, Served, Waiting, drain, fill, receive, Abandoned, Content, Empty, Full, GivenUp, Slot, Growth, JobNumber, EndsTruly, IsFlushed, IsFlushedIf, IsReadWhole, came_back, handle_answers, has_failed_write, has_failure, has_flush, last_is_end, Kind, Operating, Over, Reading, Seeking, Streaming, Writing, fault, has_closed, has_finished, has_given_up, has_result, next_but_wake, number, OwnerMayAct, Polls, is_job_seated, noted, pipe_seat, pipe_seated_by, place_of, result_seat, result_seated_by, slot_seat, slot_seated_by, next_of_owner, accepted, data_of, gave, got, inside, kind_in, last_job, room_in, taken as taken_by, poll_place, poll_slot, seen_drain, seen_fill, seen_receive, acts_of, own, SeenSession, SeenState, seen_call, seen_has_begun, seen_is_closed, seen_is_dropped, is_operation, seen_is_shut, seen_last_session, seen_session, seen_state, seen_state_by, seen_state_in, by_owner, FlowAs, FitsNext, GoneBy, HoldsResult, IsAtEnd, IsLentOpen, IsOperating, LooksFrom, OperatesBy, OwnerAs, PassedAs, PlaceBy, PollAs, SessionAs, SlotAs, WrittenAs, action_as, has_found, is_end_open, is_piped_kind, kind_as, passed_by, state_as, wrote_by, Did, Owner, awaited_as, back_answer, capacity_of, close_did, did, did_by, did_in, drain_did, fill_did, fill_did_in, find_did, goes_on, item_in, look_did, looked_as, note_at, poll_call_of, receive_did, reply_as, reply_did, OfBytes, OfItems, Session, drained, filled, reach, received, serial_of, session_after_close, session_after_drain, session_after_fill, session_after_find, session_after_look, session_after_receive, is_made, under_way, seen_capacity, is_in, jobs_of, is_serial, kind_of_job, is_waiting, StageAs, PlaceIn, LastAs}
 use Rattle.blocking_world_holders.proofs.Clashes.{never, nothing}
 use Rattle.blocking_core.specs.OwnerCalls as machine
 use Rattle.blocking_world_laws.specs.OwnerTable as law
-use Rattle.blocking_world_holders.proofs.owners.Cuts.{not_not, next_with, inside_is, room_is, lasts_is, open_is, noted_is, its_job, drain_act, drain_seen, receive_act, receive_shown}
+use Rattle.blocking_world_holders.proofs.owners.Cuts.{not_not, inside_is, room_is, lasts_is, open_is, noted_is, its_job, drain_act, drain_seen, receive_act, receive_shown}
 use Rattle.blocking_world_holders.proofs.owners.Fills.{fills, fill_waits, filled_some, filled_note, fill_act, fill_seen}
-use Rattle.blocking_world_holders.proofs.owners.Drains.{shuts, takes, waits, returns, waits_for_it, front, at_end, reached, first_item, no_more_items, receives, waits_for_item}
+use Rattle.blocking_world_holders.proofs.owners.Drains.{shuts, takes, waits, returns, waits_for_it, front, at_end, reached}
+use Rattle.blocking_world_holders.proofs.owners.Receives.{first_item, no_more_items, receives, waits_for_item}
 use Rattle.blocking_world_holders.proofs.owners.Goods.{through_some, piped_some}
 use Rattle.blocking_world_holders.proofs.owners.OpSessions.{kept_with}
 use Rattle.blocking_world_holders.proofs.owners.Results.{taken as result_taken, waits as result_waits}
-use Rattle.blocking_world_holders.proofs.owners.States.{is_away, gone_is, lent_at, lent_by, piped_is}
-
--- an owner by its parts
-abbrev pub owner_by_parts : ℕ → ℕ → Option HandleCall → OwnerStage → Option Session → Owner
-owner_by_parts bytes client asked here last = record { capacity = bytes; client = client; asked = asked; stage = here; session = last }
-
--- how much the pipes of its sessions hold, by their kind
-abbrev pub bound : ℕ → Kind → ℕ
-bound bytes kind = capacity_of (owner_by_parts bytes 0 None (OwnerStage.Rests State.Idle PollEnd.Replied) None) kind
-
--- An event keeps the law of its owner but for what passed, and leaves the owner tied.
-pub record Goes (new : Owner) (cut : List Event) (e : Event) : Type 0 where
-  pub acts : OwnerMayAct (is_some_worker e.party) cut e
-  pub ends : EndsTruly cut e.act
-  pub tie : OwnerAs new (e ∷ cut)
-
--- the value that is there, or another one
-abbrev pub value_of : {A : Type 0} → A → Option A → A
-value_of other None = other
-value_of other (Some value) = value
-
--- ---- the machine of a poll
-
--- an answer to what a poll does next, where it has no note to deliver
-pub turned : (p : OwnerMachine ℕ) (next : OwnerAction ℕ) (answer : OwnerAnswer ℕ) → p.is_waking ≡ false → p.next ≡ next → owner_after p answer ≡ owner_by next answer p
-turned p next answer waking is = ap (λ b. owner_in b answer p) waking ∙ ap (λ n. owner_by n answer p) is
-
--- what it does next
-pub doing : (p : OwnerMachine ℕ) → p.is_waking ≡ false → owner_next p ≡ p.next
-doing p waking = ap (λ b. wake_first b OwnerAction.Deliver p.next) waking
-
--- a poll that goes on, first by a note that it took
-pub goes_on_so : (q : OwnerMachine ℕ) (note : Option JobNumber) (x : ℕ) (asked : Option HandleCall) (at : SeenState) (next : law.OwnerAction) (ended : Bool) (back : Option (List Event))
-    → PollAs q x asked at next ended back → q.is_waking ≡ is_some note → StageBy (goes_on q note) x asked at next ended back (serial_of note)
-goes_on_so q None x asked at next ended back p waking = (p, waking, refl)
-goes_on_so q (Some number) x asked at next ended back p waking = (p, waking, refl)
-
-pub still_there : (q : OwnerMachine ℕ) (note : Option JobNumber) (asked : Option HandleCall) (acts : List Act) → GoneBy (OwnerStage.Polls q) asked acts → GoneBy (goes_on q note) asked acts
-still_there q None asked acts g = g
-still_there q (Some number) asked acts g = g
-
-pub still_called : (q : OwnerMachine ℕ) (note : Option JobNumber) (asked : Option HandleCall) → asked ≡ called_at (goes_on q note) asked
-still_called q taken asked = grind arith
-
--- what its poll does next is what the law says, and fits
-pub lawful : (bytes client : ℕ) (asked : Option HandleCall) (p : OwnerMachine ℕ) (cut : List Event) (last : Option Session) (next : OwnerAction ℕ)
-    → (t : OwnerAs (owner_by_parts bytes client asked (OwnerStage.Polls p) last) cut) → p.next ≡ next → next_of_owner cut ≡ action_as (item_in last) t.stage.0.call next
-lawful bytes client asked p cut last next t is =
-    next_with cut ∙ ap (λ n. deliver_first n (owner_next_but_wake cut (own cut))) t.stage.2 ∙ t.stage.0.next_is ∙ ap (action_as (item_in last) t.stage.0.call) is
-
-pub fits_at : (bytes client : ℕ) (asked : Option HandleCall) (p : OwnerMachine ℕ) (cut : List Event) (last : Option Session) (next : OwnerAction ℕ)
-    → (t : OwnerAs (owner_by_parts bytes client asked (OwnerStage.Polls p) last) cut) → p.next ≡ next → FitsNext t.stage.0.call p next (law.is_at_end (own cut)) (came_back cut)
-fits_at bytes client asked p cut last next t is = subst (λ n. FitsNext t.stage.0.call p n (law.is_at_end (own cut)) (came_back cut)) is t.stage.0.fits
-
--- a poll that goes on, first by a note that it took, is where it is in its operations
-operating_so : (q : OwnerMachine ℕ) (note : Option JobNumber) (waits operates begun found : Bool) → IsOperating q.next operates begun found → OperatesBy (goes_on q note) waits operates begun found
-operating_so q None waits operates begun found is = is
-operating_so q (Some number) waits operates begun found is = is
-
--- the note that it took is of the job in the seat
-noted_so : (q : OwnerMachine ℕ) (note : Option JobNumber) (sits : Bool) (seated : JobNumber) → note ≡ seat_of sits seated → (number : JobNumber) → note_at (goes_on q note) ≡ Some number
-    → Some seated ≡ Some number
-noted_so q None sits seated e number is = absurd (nothing is)
-noted_so q (Some note) true seated e number is = sym e ∙ is
-noted_so q (Some note) false seated e number is = absurd (cc)
-
--- a reply that isn't that all is done leaves the handle where it is
-pub failed_fits : (c : HandleCall) (p : OwnerMachine ℕ) (why : Fault ℕ) (ended : Bool) (back : Option (List Event)) → FitsNext c p (OwnerAction.Reply (Reply.Failed why)) ended back
-failed_fits (HandleCall.Read zero) p why ended back = (refl, tt, tt)
-failed_fits (HandleCall.Read (suc n)) p why ended back = (refl, tt, tt)
-failed_fits _ p why ended back = (refl, tt, tt)
-
-some_fits : (c : HandleCall) (p : OwnerMachine ℕ) (count : ℕ) (ended : Bool) (back : Option (List Event)) → 0 < count → FitsNext c p (OwnerAction.Reply (Reply.Count count)) ended back
-some_fits c p zero ended back some = absurd (omega arith)
-some_fits (HandleCall.Read zero) p (suc count) ended back some = (refl, tt, tt)
-some_fits (HandleCall.Read (suc n)) p (suc count) ended back some = (refl, tt, tt)
-some_fits _ p (suc count) ended back some = (refl, tt, tt)
-
--- some bytes that came out or went in are told
-got_machine : (p : OwnerMachine ℕ) (most count : ℕ) (noted : Bool) → 0 < count → count ≤ most
-    → machine.after_got most count noted p ≡ record p { next = OwnerAction.Reply (Reply.Count count); is_waking = noted }
-got_machine p most zero noted some fits = absurd (omega arith)
-got_machine p most (suc count) noted some fits =
-    let test : nat_le (suc count) most ≡ true = grind (arith, nat_tests) in
-    ap (λ b. if b then record p { next = OwnerAction.Reply (Reply.Count (suc count)); is_waking = noted } else p) test
-
--- ---- a session that was read whole, or flushed
-
-earlier_none : (a b : Option (Fault ℕ)) → earlier a b ≡ None → (a ≡ None) × (b ≡ None)
-earlier_none None b e = (refl, e)
-earlier_none (Some why) b e = absurd (cc)
-
-no_failure : (past : List Act) → fault Reading past ≡ None → has_failure (handle_answers past) ≡ false
-no_failure [] e = refl
-no_failure (Answered answer ∷ past) e =
-    let both = earlier_none (fault Reading past) (fault_in (next_but_wake Reading past) answer) e in
-    or_from (is_failure answer) (has_failure (handle_answers past)) (sound (next_but_wake Reading past) answer both.1) (no_failure past both.0)
-  where
-    sound : (action : JobAction) (answer : Answer) → fault_in action answer ≡ None → is_failure answer ≡ false
-    sound action answer e = grind arith
-no_failure (_ ∷ past) e = no_failure past e
-
-pub last_is : (a : JobAction) → is_over a ≡ true → a ≡ Over
-last_is a e = grind arith
-
--- what ended, with nothing left inside, and met no fault, was read whole
-whole_by : (g : Passed) (stopped : Bool) (took : List ℕ) → stopped ≡ false → GaveAll stopped g → g.put ≡ took → g.failed ≡ false → (took ≡ g.given) × (g.ended ≡ true)
-whole_by g true took goes all put sound = absurd (cc)
-whole_by g false took goes all put sound = (sym put ∙ sym all.0, ended g.failed g.ended sound all.1)
-  where
-    ended : (a b : Bool) → a ≡ false → a || b ≡ true → b ≡ true
-    ended a b none e = grind arith
+use Rattle.blocking_world_holders.proofs.owners.States.{gone_is, lent_at, lent_by, piped_is}
+use Rattle.blocking_world_holders.proofs.owners.Polls.{owner_by_parts, bound, Goes, value_of, turned, doing, goes_on_so, still_there, still_called, lawful, fits_at, operating_so, noted_so, some_fits, got_machine, last_is}
+use Rattle.blocking_world_holders.proofs.owners.Returns.{no_failure, whole_by, looks_away, lent_state, shut_now, once_back, at_back_is, IsNoSeek, after_back_is, sought_is, back_fits, sought_fits, back_operates, sought_operates, some_why}
+use Rattle.blocking_world_holders.proofs.owners.Replies.{reply_goes, drops_goes}
 
 module _ (bytes client : ℕ) (asked : Option HandleCall) (p : OwnerMachine ℕ) (s : Session) (h first : ℕ) (growth : Growth) (cut : List Event) where
   -- what the tie of the session is about
@@ -471,19 +363,6 @@ module _ (bytes client : ℕ) (asked : Option HandleCall) (p : OwnerMachine ℕ)
 
   -- ---- it looks into the slot
 
-  -- a session whose handle isn't back goes on
-  looks_away : (c : HandleCall) (st : State) (ended : Bool) → LooksFrom c st ended → is_away st ≡ false
-  looks_away c State.Closed ended looks = absurd looks
-  looks_away c _ ended looks = refl
-
-  lent_state : (c : HandleCall) (st : State) (ended : Bool) → LooksFrom c st ended → (r : Option SeenSession) (b : Bool) → seen_state_in r b ≡ state_as st → is_none r ≡ false
-  lent_state c (State.Lent kind end) ended looks None b e = absurd (cc)
-  lent_state c (State.Lent kind end) ended looks (Some r) b e = refl
-  lent_state c _ ended looks r b e = absurd looks
-
-  shut_now : (k : Kind) (r : Option SeenSession) (b : Bool) → seen_state_in r b ≡ SeenState.In k false → not b ≡ false
-  shut_now k r b e = grind arith
-
   -- one end of its pipe was closed, if there is one
   closed_end : (c : HandleCall) (st : State) (ended : Bool) → LooksFrom c st ended → seen_state (own cut) ≡ state_as st → seen_state_in (seen_session (own cut)) shut ≡ state_as st
       → shut ≡ not s.pipe.is_owner_open → (ended ≡ true → IsAtEnd s) → (s.pipe.is_owner_open ≡ false) ⊎ ((s.pipe.is_job_open ≡ false) ⊎ (is_piped_kind kind ≡ false))
@@ -507,139 +386,6 @@ module _ (bytes client : ℕ) (asked : Option HandleCall) (p : OwnerMachine ℕ)
       let closed = closed_end c p.state p.is_at_end fits.0 t.stage.0.at_is at t.last.lent.shut_is (λ is_end. t.ended (sym fits.1 ∙ is_end)) in
       waits_goes t PollEnd.Waits s.pipe s.result (record s.slot { seat = Some tt }) at_slot (ap poll_slot (sym unfinished)) (refl, operates_at OwnerAction.PollSlot is t)
       (waits_for_it s kind (bound bytes kind) began shut over gone took written acts js ps ss empty closed t.last) t.place (or_right (is_some s.pipe.owner_seat) true refl)
-
-  -- what the law says once the handle is back, by the call that is asked, the fault that the job met, its kind and its last number
-  abbrev once_back : Option HandleCall → Option (Fault ℕ) → Bool → Kind → ℕ → law.OwnerAction
-  once_back None why ended of n = law.Rest
-  once_back (Some call) why ended of n = law.after_back call why ended of n
-
-  at_back_is : (asked : Option HandleCall) (r : SeenSession) (ended : Bool) (seen : List Event)
-      → law.at_back asked (Some r) ended seen ≡ once_back asked (fault r.kind (acts_of r.serial seen)) ended r.kind (number (acts_of r.serial seen))
-  at_back_is asked r ended seen = grind arith
-
-  -- only a read and a call for an item see the end
-  abbrev sees_end : HandleCall → Bool
-  sees_end (HandleCall.Read most) = true
-  sees_end HandleCall.Next = true
-  sees_end _ = false
-
-  only_seen : (c : HandleCall) (st : State) → LooksFrom c st true → sees_end c ≡ true
-  only_seen (HandleCall.Read most) st looks = refl
-  only_seen HandleCall.Next st looks = refl
-  only_seen c (State.Lent _ Shut) looks = absurd looks
-  only_seen _ (State.Lent _ Open) looks = absurd looks
-  only_seen c _ looks = absurd looks
-
-  -- each in its own session
-  seen_reading : (most : ℕ) (st : State) → LooksFrom (HandleCall.Read most) st true → st ≡ State.Lent SessionKind.Reading Open
-  seen_reading most (State.Lent SessionKind.Reading Open) looks = refl
-  seen_reading most (State.Lent _ Shut) looks = absurd looks
-  seen_reading most (State.Lent _ Open) looks = absurd looks
-  seen_reading most _ looks = absurd looks
-
-  seen_streaming : (st : State) → LooksFrom HandleCall.Next st true → st ≡ State.Lent SessionKind.Streaming Open
-  seen_streaming (State.Lent SessionKind.Streaming Open) looks = refl
-  seen_streaming (State.Lent _ Shut) looks = absurd looks
-  seen_streaming (State.Lent _ Open) looks = absurd looks
-  seen_streaming _ looks = absurd looks
-
-  -- it came back from no seek that went well
-  abbrev IsNoSeek : Kind → Option (Fault ℕ) → Type 0
-  IsNoSeek (Seeking goal) None = ⊥
-  IsNoSeek of why = Unit {0}
-
-  -- what follows once the handle is back
-  after_back_is : (k : Bool) (c : HandleCall) (st : State) (ended : Bool) (why : Option (Fault ℕ)) (of : Kind) (last : ℕ) → LooksFrom c st ended → IsNoSeek of why
-      → law.after_back c why ended of last ≡ action_as s.item c (machine.after_back (poll_call_of k c) ended why)
-  after_back_is k (HandleCall.Read zero) st false None of last looks kept = refl
-  after_back_is k (HandleCall.Read (suc n)) st false None of last looks kept = refl
-  after_back_is k (HandleCall.Write []) st false None of last looks kept = refl
-  after_back_is k (HandleCall.Write (byte ∷ more)) st false None of last looks kept = refl
-  after_back_is k (HandleCall.Write offered) st true None of last looks kept = absurd (let seen = only_seen (HandleCall.Write offered) st looks in cc)
-  after_back_is k HandleCall.Flush st true None of last looks kept = absurd (let seen = only_seen HandleCall.Flush st looks in cc)
-  after_back_is k HandleCall.Close st true None of last looks kept = absurd (let seen = only_seen HandleCall.Close st looks in cc)
-  after_back_is k HandleCall.GetMut st false (Some why) of last looks kept = refl
-  after_back_is k HandleCall.GetMut st true why of last looks kept = absurd (let seen = only_seen HandleCall.GetMut st looks in cc)
-  after_back_is k HandleCall.Next st true (Some why) of last looks kept = refl
-  after_back_is k HandleCall.Next st false (Some why) of last looks kept = refl
-  after_back_is k (HandleCall.Seek goal) st false None (Seeking from) last looks kept = absurd kept
-  after_back_is k (HandleCall.Seek goal) st false None _ last looks kept = refl
-  after_back_is k (HandleCall.Seek goal) st true None of last looks kept = absurd (let seen = only_seen (HandleCall.Seek goal) st looks in cc)
-  after_back_is k HandleCall.Operate st false (Some why) of last looks kept = refl
-  after_back_is k HandleCall.Operate st true why of last looks kept = absurd (let seen = only_seen HandleCall.Operate st looks in cc)
-  after_back_is k HandleCall.OperateAgain st false (Some why) of last looks kept = refl
-  after_back_is k HandleCall.OperateAgain st true why of last looks kept = absurd (let seen = only_seen HandleCall.OperateAgain st looks in cc)
-  after_back_is k HandleCall.IntoInner st false (Some why) of last looks kept = refl
-  after_back_is k HandleCall.IntoInner st true why of last looks kept = absurd (let seen = only_seen HandleCall.IntoInner st looks in cc)
-  after_back_is k _ st false None of last looks kept = refl
-  after_back_is k _ st ended (Some why) of last looks kept = refl
-  after_back_is k _ st true None of last looks kept = refl
-
-  -- and once it is back from a seek that went well
-  sought_is : (k : Bool) (c : HandleCall) (goal : Position) (end : OwnerEnd) (place : ℕ)
-      → law.after_back c None false (Seeking goal) place ≡ action_as s.item c (machine.after_seek (State.Lent (SessionKind.Seeking goal) end) (poll_call_of k c) place)
-  sought_is k (HandleCall.Seek to) goal end place = by (same_position goal to)
-    where
-      by : (b : Bool) → (if b then law.Say (Told.Count place) else law.Begin)
-          ≡ action_as s.item (HandleCall.Seek to) (if b then OwnerAction.Reply (Reply.Position place) else OwnerAction.Begin)
-      by true = refl
-      by false = refl
-  sought_is k (HandleCall.Read zero) goal end place = refl
-  sought_is k (HandleCall.Read (suc n)) goal end place = refl
-  sought_is k (HandleCall.Write []) goal end place = refl
-  sought_is k (HandleCall.Write (byte ∷ more)) goal end place = refl
-  sought_is k _ goal end place = refl
-
-  -- and it fits
-  back_fits : (k : Bool) (q : OwnerMachine ℕ) (c : HandleCall) (st : State) (ended : Bool) (why : Option (Fault ℕ)) (back : Option (List Event)) → LooksFrom c st ended → q.state ≡ State.Idle → q.is_at_end ≡ ended
-      → (ended ≡ true → why ≡ None → st ≡ State.Lent SessionKind.Reading Open → IsReadBack back) → (ended ≡ true → st ≡ State.Lent SessionKind.Streaming Open → IsReadBack back)
-      → (why ≡ None → IsFlushedBack back) → FitsNext c q (machine.after_back (poll_call_of k c) ended why) false back
-  back_fits k q (HandleCall.Read most) st ended (Some why) back looks at end whole taken flushed = failed_fits (HandleCall.Read most) q why false back
-  back_fits k q (HandleCall.Read zero) st true None back looks at end whole taken flushed = (refl, tt, tt)
-  back_fits k q (HandleCall.Read (suc n)) st true None back looks at end whole taken flushed = (refl, whole refl refl (seen_reading (suc n) st looks), tt)
-  back_fits k q (HandleCall.Read zero) st false None back looks at end whole taken flushed = (refl, tt, tt)
-  back_fits k q (HandleCall.Read (suc n)) st false None back looks at end whole taken flushed = (tt, at, end)
-  back_fits k q (HandleCall.Write []) st false None back looks at end whole taken flushed = (refl, tt, tt)
-  back_fits k q (HandleCall.Write (byte ∷ more)) st false None back looks at end whole taken flushed = (tt, at, end)
-  back_fits k q (HandleCall.Write offered) st true None back looks at end whole taken flushed = absurd (let seen = only_seen (HandleCall.Write offered) st looks in cc)
-  back_fits k q HandleCall.Flush st true None back looks at end whole taken flushed = (refl, flushed refl, tt)
-  back_fits k q HandleCall.Flush st false None back looks at end whole taken flushed = (refl, flushed refl, tt)
-  back_fits k q HandleCall.Close st true None back looks at end whole taken flushed = (refl, at, flushed refl)
-  back_fits k q HandleCall.Close st false None back looks at end whole taken flushed = (refl, at, flushed refl)
-  back_fits k q HandleCall.GetMut st true (Some why) back looks at end whole taken flushed = (refl, tt, tt)
-  back_fits k q HandleCall.GetMut st false None back looks at end whole taken flushed = (refl, tt, tt)
-  back_fits k q HandleCall.GetMut st false (Some why) back looks at end whole taken flushed = (refl, tt, tt)
-  back_fits k q HandleCall.Next st true None back looks at end whole taken flushed = (refl, taken refl (seen_streaming st looks), tt)
-  back_fits k q HandleCall.Next st true (Some why) back looks at end whole taken flushed = (refl, taken refl (seen_streaming st looks), tt)
-  back_fits k q HandleCall.Next st false (Some why) back looks at end whole taken flushed = (tt, at, end)
-  back_fits k q (HandleCall.Seek goal) st true None back looks at end whole taken flushed = absurd (let seen = only_seen (HandleCall.Seek goal) st looks in cc)
-  back_fits k q HandleCall.Operate st false (Some why) back looks at end whole taken flushed = (tt, at, end)
-  back_fits k q HandleCall.Operate st true why back looks at end whole taken flushed = absurd (let seen = only_seen HandleCall.Operate st looks in cc)
-  back_fits k q HandleCall.OperateAgain st false (Some why) back looks at end whole taken flushed = (tt, at, end)
-  back_fits k q HandleCall.OperateAgain st true why back looks at end whole taken flushed = absurd (let seen = only_seen HandleCall.OperateAgain st looks in cc)
-  back_fits k q HandleCall.IntoInner st true (Some why) back looks at end whole taken flushed = (refl, tt, tt)
-  back_fits k q HandleCall.IntoInner st false None back looks at end whole taken flushed = (refl, tt, tt)
-  back_fits k q HandleCall.IntoInner st false (Some why) back looks at end whole taken flushed = (refl, tt, tt)
-  back_fits k q _ st ended (Some why) back looks at end whole taken flushed = (refl, tt, tt)
-  back_fits k q _ st false None back looks at end whole taken flushed = (tt, at, end)
-  back_fits k q _ st true None back looks at end whole taken flushed = (refl, tt, tt)
-
-  sought_fits : (k : Bool) (q : OwnerMachine ℕ) (c : HandleCall) (goal : Position) (end : OwnerEnd) (place : ℕ) (back : Option (List Event)) → q.state ≡ State.Idle → q.is_at_end ≡ false
-      → IsFlushedBack back → FitsNext c q (machine.after_seek (State.Lent (SessionKind.Seeking goal) end) (poll_call_of k c) place) false back
-  sought_fits k q (HandleCall.Seek to) goal end place back at ended flushed = by (same_position goal to)
-    where
-      by : (b : Bool) → FitsNext (HandleCall.Seek to) q (if b then OwnerAction.Reply (Reply.Position place) else OwnerAction.Begin) false back
-      by true = (refl, tt, tt)
-      by false = (tt, at, ended)
-  sought_fits k q (HandleCall.Read zero) goal end place back at ended flushed = (refl, tt, tt)
-  sought_fits k q (HandleCall.Read (suc n)) goal end place back at ended flushed = (tt, at, ended)
-  sought_fits k q (HandleCall.Write []) goal end place back at ended flushed = (refl, tt, tt)
-  sought_fits k q (HandleCall.Write (byte ∷ more)) goal end place back at ended flushed = (tt, at, ended)
-  sought_fits k q HandleCall.Flush goal end place back at ended flushed = (refl, flushed, tt)
-  sought_fits k q HandleCall.Close goal end place back at ended flushed = (refl, at, flushed)
-  sought_fits k q HandleCall.GetMut goal end place back at ended flushed = (refl, tt, tt)
-  sought_fits k q HandleCall.IntoInner goal end place back at ended flushed = (refl, tt, tt)
-  sought_fits k q _ goal end place back at ended flushed = (tt, at, ended)
 
   -- a job that finished is over
   over_now : Old → has_finished acts ≡ true → next_but_wake kind acts ≡ Over
@@ -726,46 +472,6 @@ module _ (bytes client : ℕ) (asked : Option HandleCall) (p : OwnerMachine ℕ)
       ) goes t.place
       (returns s kind (bound bytes kind) began shut over gone took written acts js ps ss why full t.last) (λ is_end. absurd (cc)) (λ number is. absurd (cc))
 
-  -- once the handle is back, an operation hasn't begun its session
-  idle_operates : (c : PollCall) (operates : Bool) → (operates ≡ true → begun ≡ false) → IsOperating (machine.table c State.Idle) operates begun came
-  idle_operates (PollCall.Read zero) operates before = tt
-  idle_operates (PollCall.Read (suc n)) operates before = before
-  idle_operates (PollCall.Write zero) operates before = tt
-  idle_operates (PollCall.Write (suc n)) operates before = before
-  idle_operates PollCall.Flush operates before = tt
-  idle_operates PollCall.GetMut operates before = tt
-  idle_operates PollCall.IntoInner operates before = tt
-  idle_operates _ operates before = before
-
-  end_operates : (c : PollCall) (ended operates : Bool) → (operates ≡ true → begun ≡ false) → IsOperating (machine.after_end c ended) operates begun came
-  end_operates c false operates before = idle_operates c operates before
-  end_operates c true operates before = at_end c
-    where
-      at_end : (c : PollCall) → IsOperating (machine.at_end c) operates begun came
-      at_end (PollCall.Write n) = idle_operates (PollCall.Write n) operates before
-      at_end PollCall.Flush = idle_operates PollCall.Flush operates before
-      at_end PollCall.Close = idle_operates PollCall.Close operates before
-      at_end (PollCall.Seek goal) = idle_operates (PollCall.Seek goal) operates before
-      at_end (PollCall.Operate has_begun) = idle_operates (PollCall.Operate has_begun) operates before
-      at_end PollCall.GetMut = idle_operates PollCall.GetMut operates before
-      at_end PollCall.IntoInner = idle_operates PollCall.IntoInner operates before
-      at_end _ = tt
-
-  back_operates : (c : PollCall) (ended : Bool) (why : Option (Fault ℕ)) (operates : Bool) → (operates ≡ true → begun ≡ false) → IsOperating (machine.after_back c ended why) operates begun came
-  back_operates c ended None operates before = end_operates c ended operates before
-  back_operates c ended (Some why) operates before = by (machine.tells_faults c)
-    where
-      by : (b : Bool) → IsOperating (if b then OwnerAction.Reply (Reply.Failed why) else machine.after_end c ended) operates begun came
-      by true = tt
-      by false = end_operates c ended operates before
-
-  sought_operates : (st : State) (c : PollCall) (place : ℕ) (operates : Bool) → (operates ≡ true → begun ≡ false) → IsOperating (machine.after_seek st c place) operates begun came
-  sought_operates st c place operates before = by (machine.sought_by st c)
-    where
-      by : (b : Bool) → IsOperating (if b then OwnerAction.Reply (Reply.Position place) else machine.table c State.Idle) operates begun came
-      by true = tt
-      by false = idle_operates c operates before
-
   back_goes : p.next ≡ OwnerAction.PollSlot → Old → (why : Option (Fault ℕ)) → s.slot.content ≡ Full why → IsNoSeek kind why
       → Goes (owner_by_parts bytes client asked (OwnerStage.Polls (owner_after p (OwnerAnswer.Back why))) (Some (session_after_look (Full why) s))) cut (by_owner h Back first growth)
   back_goes is t why full kept =
@@ -781,9 +487,9 @@ module _ (bytes client : ℕ) (asked : Option HandleCall) (p : OwnerMachine ℕ)
       let all_taken = λ (is_end : p.is_at_end ≡ true) (there_is : p.state ≡ State.Lent SessionKind.Streaming Open).
       taken_whole t (lent_at (own cut) Streaming true (t.stage.0.at_is ∙ ap state_as there_is)).0 (t.ended (sym fits.1 ∙ is_end)) slot.0 slot.1 in
       let flushed = λ (none : why ≡ None). flushed_if kind (λ writes. flushed_whole t writes slot.0 slot.1 (sym slot.3 ∙ none)) in
-      returned is t why full (OwnerAnswer.Back why) (machine.after_back (poll_call_of k c) p.is_at_end why) same (after_back_is k c p.state p.is_at_end why kind (number acts) fits.0 kept)
+      returned is t why full (OwnerAnswer.Back why) (machine.after_back (poll_call_of k c) p.is_at_end why) same (after_back_is s k c p.state p.is_at_end why kind (number acts) fits.0 kept)
       (back_fits k q c p.state p.is_at_end why (Some (by_owner h Back first growth ∷ cut)) fits.0 refl refl whole all_taken flushed)
-      (back_operates (poll_call_of k c) p.is_at_end why (is_operation asked) (operates_at OwnerAction.PollSlot is t))
+      (back_operates begun came (poll_call_of k c) p.is_at_end why (is_operation asked) (operates_at OwnerAction.PollSlot is t))
 
   -- the handle is back from a seek that went well
   sought_goes : p.next ≡ OwnerAction.PollSlot → Old → (goal : Position) (end : OwnerEnd) → p.state ≡ State.Lent (SessionKind.Seeking goal) end → s.slot.content ≡ Full None
@@ -805,19 +511,15 @@ module _ (bytes client : ℕ) (asked : Option HandleCall) (p : OwnerMachine ℕ)
       let flushed = flushed_if kind (λ writes. flushed_whole t writes slot.0 slot.1 (sym slot.3)) in
       returned is t None full (OwnerAnswer.Sought s.left) next same
       (ap (λ b. law.after_back c None b kind (number acts)) unended ∙ ap (λ k. law.after_back c None false k (number acts)) of
-      ∙ ap (λ n. law.after_back c None false (Seeking goal) n) (sym place) ∙ sought_is k c goal end s.left)
+      ∙ ap (λ n. law.after_back c None false (Seeking goal) n) (sym place) ∙ sought_is s k c goal end s.left)
       (sought_fits k q c goal end s.left (Some (by_owner h Back first growth ∷ cut)) refl unended flushed)
-      (sought_operates here (poll_call_of k c) s.left (is_operation asked) (operates_at OwnerAction.PollSlot is t))
+      (sought_operates begun came here (poll_call_of k c) s.left (is_operation asked) (operates_at OwnerAction.PollSlot is t))
     where
       ends_not : (end : OwnerEnd) (b : Bool) (c : HandleCall) → LooksFrom c (State.Lent (SessionKind.Seeking goal) end) b → b ≡ false
       ends_not end false c looks = refl
       ends_not Open true (HandleCall.Read most) looks = absurd looks
       ends_not Open true HandleCall.Next looks = absurd looks
       ends_not _ true _ looks = absurd looks
-
-  some_why : (k : Kind) (why : Fault ℕ) → IsNoSeek k (Some why)
-  some_why (Seeking goal) why = tt
-  some_why _ why = tt
 
   other_kind : Old → (k : SessionKind) (end : OwnerEnd) (why : Option (Fault ℕ)) → p.state ≡ State.Lent k end → IsNoSeek (kind_as k) why → IsNoSeek kind why
   other_kind t k end why from kept = subst (λ (of : Kind). IsNoSeek of why) (sym (lent_at (own cut) (kind_as k) (is_end_open end) (t.stage.0.at_is ∙ ap state_as from)).0) kept
@@ -915,123 +617,6 @@ module _ (bytes client : ℕ) (asked : Option HandleCall) (p : OwnerMachine ℕ)
       subst (λ (d : Did). Goes d.owner cut (by_owner h d.act first growth)) (ap (value_of done) does) (result_found is t (operates_so is t) n e)
   find_goes is t GivenUp e done does = absurd (nothing does)
   find_goes is t (Abandoned was) e done does = absurd (subst (λ c. HoldsResult c (has_result acts) came (number acts)) e t.place.content)
-
--- ---- it replies
-
-end_is : (x : ℕ) (c : HandleCall) (r : Reply ℕ) (back : Option (List Event)) (said : Told) → reply_as x r ≡ Some said → EndAs c r back → IsTrueEnd (Some c) said back
-end_is x c r back said same e = subst (λ told. IsTrueEnd (Some c) (value_of said told) back) same (by_reply c r same e)
-  where
-    by_reply : (c : HandleCall) (r : Reply ℕ) → reply_as x r ≡ Some said → EndAs c r back → IsTrueEnd (Some c) (value_of said (reply_as x r)) back
-    by_reply (HandleCall.Read (suc n)) (Reply.Count zero) same e = e
-    by_reply HandleCall.Flush Reply.Done same e = e
-    by_reply HandleCall.Close Reply.Done same e = e
-    by_reply (HandleCall.Read (suc n)) (Reply.Count (suc k)) same e = tt
-    by_reply (HandleCall.Seek goal) (Reply.Position place) same e = tt
-    by_reply _ (Reply.Position place) same e = absurd e
-    by_reply HandleCall.Next Reply.End same e = e
-    by_reply c Reply.Closed same e = absurd (cc)
-    by_reply HandleCall.Operate Reply.Result same e = tt
-    by_reply HandleCall.OperateAgain Reply.Result same e = tt
-    by_reply _ Reply.Result same e = absurd (never e)
-    by_reply _ _ same e = tt
-
--- where the handle is after a reply: a close that is all done has none
-after_reply : (x : ℕ) (c : HandleCall) (r : Reply ℕ) (said : Told) (closed : Bool) (last : Option SeenSession) (shut : Bool) (st : State) → reply_as x r ≡ Some said → IsGoneBy r c st
-    → seen_state_by closed last shut ≡ state_as st → seen_state_by (seen_ends_close said (Some c) || closed) last shut ≡ state_as st
-after_reply x HandleCall.Close Reply.Done Told.Okay closed last shut st same away e = sym (ap state_as away)
-after_reply x (HandleCall.Read n) Reply.Done Told.Okay closed last shut st same away e = e
-after_reply x (HandleCall.Write l) Reply.Done Told.Okay closed last shut st same away e = e
-after_reply x HandleCall.Flush Reply.Done Told.Okay closed last shut st same away e = e
-after_reply x HandleCall.GetMut Reply.Done Told.Okay closed last shut st same away e = e
-after_reply x (HandleCall.Seek position) Reply.Done Told.Okay closed last shut st same away e = e
-after_reply x HandleCall.Next Reply.Done Told.Okay closed last shut st same away e = e
-after_reply x HandleCall.Operate Reply.Done Told.Okay closed last shut st same away e = e
-after_reply x HandleCall.OperateAgain Reply.Done Told.Okay closed last shut st same away e = e
-after_reply x HandleCall.IntoInner Reply.Done Told.Okay closed last shut st same away e = e
-after_reply x c _ Told.Okay closed last shut st same away e = absurd (cc)
-after_reply x c r _ closed last shut st same away e = e
-
-reply_goes : (bytes client : ℕ) (asked : Option HandleCall) (p : OwnerMachine ℕ) (last : Option Session) (h first : ℕ) (growth : Growth) (cut : List Event) (r : Reply ℕ) (said : Told)
-    → p.next ≡ OwnerAction.Reply r → reply_as (item_in last) r ≡ Some said → OwnerAs (owner_by_parts bytes client asked (OwnerStage.Polls p) last) cut
-    → Goes (owner_by_parts bytes client asked (stage_after_reply (seen_is_into_inner asked) p.state) last) cut (by_owner h (Replied said) first growth)
-reply_goes bytes client asked p last h first growth cut r said is same t = at (seen_is_into_inner asked) refl
-  where
-    fits : FitsNext t.stage.0.call p (OwnerAction.Reply r) (law.is_at_end (own cut)) (came_back cut)
-    fits = fits_at bytes client asked p cut last (OwnerAction.Reply r) t is
-
-    -- where it is after that has no poll under way and no note, and is no more if the handle was asked for for good
-    after : (here : OwnerStage) → called_at here asked ≡ None → note_at here ≡ None → is_gone here ≡ false → is_no_more here ≡ seen_is_into_inner asked
-        → StageBy here (item_in last) (seen_call (own cut)) (seen_state (Replied said ∷ own cut)) law.Rest false (came_back cut) None
-        → OperatesBy here false (is_operation asked) (seen_has_begun (own cut)) (has_found (own cut))
-        → Goes (owner_by_parts bytes client asked here last) cut (by_owner h (Replied said) first growth)
-    after here rests awake there over so operates = record {
-      acts = subst (λ n. Polls cut n (Replied said)) (sym (lawful bytes client asked p cut last (OwnerAction.Reply r) t is ∙ ap say same)) refl;
-      ends = subst (λ c. IsTrueEnd c said (came_back cut)) (sym t.stage.0.asked_is) (end_is (item_in last) t.stage.0.call r (came_back cut) said same fits.1);
-      tie = record {
-        made = t.made;
-        gone = (
-          t.gone.0 ∙ sym there,
-          ap (λ c. seen_is_into_inner c || seen_is_owner_gone (own cut)) t.asked ∙ or_none (seen_is_into_inner asked) (seen_is_owner_gone (own cut)) t.gone.1 ∙ sym over,
-          t.gone.2,
-        );
-        asked = t.asked;
-        polled = sym rests;
-        bytes = t.bytes;
-        stage = so;
-        operates = operates;
-        last = t.last;
-        place = t.place;
-        ended = λ is_end. absurd (never is_end);
-        earlier = t.earlier;
-        noted = λ number is. absurd (let none = awake in cc);
-        told = λ waits. absurd (never waits);
-      };
-    }
-      where
-        or_none : (a b : Bool) → b ≡ false → (a || b) ≡ a
-        or_none a b none = grind arith
-
-    at : (b : Bool) → seen_is_into_inner asked ≡ b → Goes (owner_by_parts bytes client asked (stage_after_reply b p.state) last) cut (by_owner h (Replied said) first growth)
-    at true inner = after OwnerStage.TakenBack refl refl refl (sym inner) (refl, refl) tt
-    at false not_inner = after (OwnerStage.Rests p.state PollEnd.Replied) refl refl refl (sym not_inner) (
-      ap (λ c. seen_state_by (seen_ends_close said c || seen_is_closed (own cut)) (seen_session (own cut)) (seen_is_shut (own cut))) t.stage.0.asked_is
-          ∙ after_reply (item_in last) t.stage.0.call r said (seen_is_closed (own cut)) (seen_session (own cut)) (seen_is_shut (own cut)) p.state same fits.2 t.stage.0.at_is,
-      refl,
-      refl,
-    ) refl
-
--- it drops the handle: of a close all is done
-drops_goes : (bytes client : ℕ) (asked : Option HandleCall) (p : OwnerMachine ℕ) (last : Option Session) (h first : ℕ) (growth : Growth) (cut : List Event) → p.next ≡ OwnerAction.DropHandle
-    → OwnerAs (owner_by_parts bytes client asked (OwnerStage.Polls p) last) cut
-    → Goes (drop_did p (owner_by_parts bytes client asked (OwnerStage.Polls p) last)).owner cut (by_owner h (Replied Told.Okay) first growth)
-drops_goes bytes client asked p last h first growth cut is t =
-    let fits = fits_at bytes client asked p cut last OwnerAction.DropHandle t is in
-    let called : seen_call (own cut) ≡ Some HandleCall.Close = t.stage.0.asked_is ∙ ap Some fits.0 in
-    let same : owner_after p OwnerAnswer.Dropped ≡ record p { state = State.Closed; next = OwnerAction.Reply Reply.Done } = turned p OwnerAction.DropHandle OwnerAnswer.Dropped t.stage.1 is in
-    subst (λ (m : OwnerMachine ℕ). Goes (owner_by_parts bytes client asked (OwnerStage.Rests m.state PollEnd.Replied) last) cut (by_owner h (Replied Told.Okay) first growth)) (sym same)
-    (record {
-      acts = subst (λ n. Polls cut n (Replied Told.Okay)) (sym (lawful bytes client asked p cut last OwnerAction.DropHandle t is)) refl;
-      ends = subst (λ c. IsTrueEnd c Told.Okay (came_back cut)) (sym called) fits.2;
-      tie = record {
-        made = t.made;
-        gone = (t.gone.0, ap (λ c. seen_is_into_inner c || seen_is_owner_gone (own cut)) called ∙ t.gone.1, t.gone.2);
-        asked = t.asked;
-        polled = refl;
-        bytes = t.bytes;
-        stage = (
-          ap (λ c. seen_state_by (seen_ends_close Told.Okay c || seen_is_closed (own cut)) (seen_session (own cut)) (seen_is_shut (own cut))) called,
-          refl,
-          refl,
-        );
-        operates = refl;
-        place = t.place;
-        last = t.last;
-        ended = λ is_end. absurd (never is_end);
-        earlier = t.earlier;
-        noted = λ number is. absurd (nothing is);
-        told = λ waits. absurd (never waits);
-      };
-    })
 
 -- ---- what its poll does next
 

@@ -8,7 +8,7 @@ use Rattle.blocking_world_holders.proofs.Words.{Growth, is_in, Kind, accepted_by
 use Rattle.blocking_pool.proofs.Places.{got_same, got_other, in_pushed}
 use Rattle.blocking_world_holders.proofs.owners.Cuts.{passes}
 use Rattle.blocking_world_holders.proofs.owners.Jobs.{worked_on}
-use Rattle.blocking_world_holders.proofs.owners.OwnerActs.{Goes}
+use Rattle.blocking_world_holders.proofs.owners.Polls.{Goes}
 use Rattle.blocking_world_holders.proofs.owners.Events.{IsPlain, brought, plain_of}
 use Rattle.blocking_world_holders.proofs.owners.Steps.{IsNewTo, step_goes, law_of}
 

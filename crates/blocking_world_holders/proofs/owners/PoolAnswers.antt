@@ -9,7 +9,7 @@ use Rattle.blocking_core.specs.OwnerCalls as machine
 use Rattle.blocking_world_laws.specs.OwnerTable as law
 use Rattle.blocking_world_holders.proofs.owners.Cuts.{next_with, next_stays, kind_of_last}
 use Rattle.blocking_world_holders.proofs.owners.Asked.{all_true, asks_inner, pending_is}
-use Rattle.blocking_world_holders.proofs.owners.OwnerActs.{Goes, owner_by_parts, bound, turned, lawful, fits_at, last_is}
+use Rattle.blocking_world_holders.proofs.owners.Polls.{Goes, owner_by_parts, bound, turned, lawful, fits_at, last_is}
 use Rattle.blocking_world_holders.proofs.owners.Results.{begun as place_begun}
 use Rattle.blocking_world_holders.proofs.owners.States.{IsThere, is_away, gone_is, lent_by, may_be_asked, is_there, of_session}
 use Rattle.blocking_world_holders.proofs.owners.Drains.{IsLending, begins}

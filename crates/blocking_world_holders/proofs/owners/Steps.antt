@@ -9,7 +9,8 @@ use Rattle.blocking_world_holders.proofs.owners.Goods.{through_some, through_non
 use Rattle.blocking_world_holders.proofs.owners.Cuts.{its_kind, kind_is, next_stays, passes}
 use Rattle.blocking_world_holders.proofs.owners.JobActs.{WorksOn, room_works, put_works, close_works, finish_works, answer_goes, give_up_goes, peek_works, consume_works, writer_close_works, writer_finish_works, writer_answer_goes, item_answer_goes, send_works, streamer_close_works, streamer_finish_works, asking_goes, seek_finish_works, seek_answer_goes, result_works, operation_finish_works, operation_answer_goes}
 use Rattle.blocking_world_holders.proofs.owners.Asked.{both_true}
-use Rattle.blocking_world_holders.proofs.owners.OwnerActs.{Goes, owner_by_parts, bound, value_of, doing, own_goes}
+use Rattle.blocking_world_holders.proofs.owners.Polls.{Goes, owner_by_parts, bound, value_of, doing}
+use Rattle.blocking_world_holders.proofs.owners.OwnerActs.{own_goes}
 use Rattle.blocking_world_holders.proofs.owners.PoolAnswers.{ask_goes, drop_goes, refuse_goes, deliver_goes, begin_goes}
 use Rattle.blocking_world_holders.proofs.owners.ReadSessions.{calls}
 use Rattle.blocking_world_holders.proofs.owners.ReadJobs as of_reader

@@ -4,7 +4,7 @@ use Rattle.std.proofs.lemmas.Bool.{or_left}
 use Rattle.blocking_world_holders.proofs.Types.{Fault, Act, Event}
 use Rattle.blocking_world_holders.proofs.Words.{Content, Empty, FindRoom, JobAction, Kind, Operating, Peek, Reading, Seeking, SendItem, Streaming, Writing, fault, has_finished, has_given_up, has_result, is_over, next_but_wake, is_job_seated, HasReason, IsSessionOf, IsStuck, is_waking, accepted, got, kind_in, acts_of, own, SeenSession, seen_capacity, seen_is_dropped as is_dropped, seen_is_shut, seen_last_session as last_session, seen_session as session, is_waiting, was_woken, Flows, IsOwnerStuckIn, IsPutBy, IsStuckIn, LastAs, OwnerAs, PlaceIn, SlotAs, is_finding, is_piped_kind, is_seated, seat_of, Owner, capacity_of, Session}
 use Rattle.blocking_world_holders.proofs.owners.Cuts.{inside_is}
-use Rattle.blocking_world_holders.proofs.owners.OwnerActs.{last_is}
+use Rattle.blocking_world_holders.proofs.owners.Polls.{last_is}
 use Rattle.blocking_world_holders.proofs.owners.States.{session_is_last}
 
 -- ---- what a job and its owner find, by the kind of the session

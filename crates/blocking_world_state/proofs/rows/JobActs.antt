@@ -9,7 +9,7 @@ use Rattle.blocking_world_holders.specs.SessionJobs as jobs
 use Rattle.blocking_world_holders.specs.SessionJobs.{kind_of}
 use Rattle.blocking_world_state.specs.declared.row.Core.TheVariants as core
 use Rattle.blocking_world_holders.proofs.owners.Jobs.{worked_on}
-use Rattle.blocking_world_holders.proofs.owners.OwnerActs.{value_of}
+use Rattle.blocking_world_holders.proofs.owners.Polls.{value_of}
 use Rattle.blocking_world_state.proofs.moves.SessionActs.{first_where_parked, same_kind}
 use Rattle.blocking_world_state.proofs.rows.SessionJobs.{answer_of, first_of_table, job_action_is, job_answers, kind_answered}
 

@@ -12,7 +12,7 @@ use Rattle.blocking_world_holders.specs.SessionJobs as jobs
 use Rattle.blocking_world_holders.specs.declared.owner.OwnerNext.TheVariants as next
 use Rattle.blocking_pool.proofs.Places.{got_before, got_other, got_same, in_pushed}
 use Rattle.blocking_world_holders.proofs.cuts.Acts.{acts_more}
-use Rattle.blocking_world_holders.proofs.owners.OwnerActs.{owner_by_parts}
+use Rattle.blocking_world_holders.proofs.owners.Polls.{owner_by_parts}
 use Rattle.blocking_world_state.proofs.moves.Lookups.{row_found, row_at, row_pushed}
 use Rattle.blocking_world_state.proofs.rows.OtherEvents.{row_kept}
 use Rattle.blocking_world_state.proofs.ties.CrewEvents.{told, by_no_worker, added_of}

@@ -14,7 +14,7 @@ use Rattle.blocking_world_state.specs.declared.row.Core.TheVariants as core
 use Rattle.blocking_pool.proofs.Places.{got_same, in_pushed}
 use Rattle.blocking_world_laws.proofs.Beginnings.{keeps}
 use Rattle.blocking_world_holders.proofs.owners.Cuts.{its_kind, kind_is}
-use Rattle.blocking_world_holders.proofs.owners.OwnerActs.{owner_by_parts, value_of}
+use Rattle.blocking_world_holders.proofs.owners.Polls.{owner_by_parts, value_of}
 use Rattle.blocking_world_holders.proofs.owners.ReadSessions.{going}
 use Rattle.blocking_world_holders.proofs.owners.Steps.{IsLast, its_last}
 use Rattle.blocking_world_state.proofs.moves.Lookups.{in_set, one_found}
