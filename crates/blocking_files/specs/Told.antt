@@ -1,0 +1,19 @@
+-- What is told of what an owner's poll came to.
+use Rattle.std.specs.Prelude.{◌≡◌, Option, Some, None, Result, Ok, Err}
+use Rattle.std.specs.declared.io.Error.{Error}
+use Rattle.futures.specs.declared.task.Poll.{Poll}
+use Rattle.futures.specs.declared.task.Poll.TheVariants.{Ready, Pending}
+use Rattle.blocking_core.specs.declared.io.Fault.{Fault}
+
+-- the poll for an entry that this poll of its owner came to: the same entry, error or end, and a refusal as an error
+abbrev pub IsFlat : {X E W : Type 0} → Poll (Option (Result (Result X E) W)) → Poll (Option (Result X E)) → Type 0
+IsFlat Pending Pending = Unit {0}
+IsFlat (Ready None) (Ready None) = Unit {0}
+IsFlat (Ready (Some (Ok entry))) (Ready (Some told)) = told ≡ entry
+IsFlat (Ready (Some (Err why))) (Ready (Some (Err error))) = Unit {0}
+IsFlat polled told = ⊥
+
+-- a flush was ready, and well
+abbrev pub IsFlushed : Poll (Result (Unit {0}) (Fault Error)) → Type 0
+IsFlushed (Ready (Ok done)) = Unit {0}
+IsFlushed flushed = ⊥

@@ -1,0 +1,112 @@
+//! A copy of a file to another.
+ghost use Rattle.std.specs.Prelude.{◌≡◌, false, IfOk, IfErr, IsNone, IsSomeAnd};
+ghost use Rattle.futures.specs.Poll.{IfReady, OnPending};
+ghost use Rattle.futures.specs.Task.{Covers, Keeps};
+ghost use Rattle.std.specs.Option.{ForSome};
+ghost use Rattle.blocking_io.specs.CopySteps.{is_over};
+
+use crate::calls::{OpenBoth, Shared};
+use crate::file::File;
+use crate::files::Files;
+use crate::job::FileJob;
+use crate::opening::file_over;
+use crate::task::FileTask;
+use blocking::{CallJob, Carries, Copier, Job, ReadJob, Runtime, WriteJob};
+use futures::Future;
+use futures::task::{Context, Poll};
+use std::alloc::{AllocError, Global};
+use std::io;
+
+// How many bytes are read at once.
+const PIECE: usize = 65_536;
+
+/// A copy of a file to another: a future of how many bytes were copied, or the greatest number of 64 bits where there were more. It is ready
+/// once all of them were written and flushed, which doesn't mean that the disk has them.
+///
+/// It may be polled at any time; behind its answer it is pending for good. After a fault the copy may have a part of the bytes.
+#[derive(Drop)]
+pub struct Copying<H: Runtime, J: Job = FileJob<H>> {
+    // The call that opens both.
+    task: FileTask<OpenBoth, H>,
+    // What both are lent to, where there was a share of it.
+    files: Option<Files<H, J>>,
+    alloc: Global,
+    // The copy, once both are open and until it was ready.
+    copier: Option<Copier<File<H, J>, File<H, J>>>,
+    ghost going: { ForSome copier (λ copier. is_over copier.core.next ≡ false) },
+}
+
+impl<H: Runtime, J: Job + Carries<CallJob<OpenBoth, H>>> Copying<H, J> {
+    pub(crate) fn new(files: &Files<H, J>, call: Result<OpenBoth, AllocError>) -> Copying<H, J>
+        ensures asked { IfOk call (λ call. IsSomeAnd result.task.asked (λ asked. asked.value ≡ call)) }
+        ensures refused { IfErr call (λ _. IsNone result.task.asked) }
+    {
+        Copying {
+            task: files.begin(call),
+            files: files.try_clone().ok(),
+            alloc: files.alloc(),
+            copier: None,
+        }
+    }
+}
+
+impl<H: Runtime, J: Job + Carries<ReadJob<Shared, H>> + Carries<WriteJob<Shared, H>>> Copying<
+    H,
+    J,
+> {
+    // The copy, once both files are open.
+    fn poll_open(
+        &mut self,
+        cx: &mut Context<'_>,
+    ) -> Poll<io::Result<Copier<File<H, J>, File<H, J>>>>
+        ensures going { IfReady result (λ r. IfOk r (λ copier. is_over copier.core.next ≡ false)) }
+        ensures same { self.new.copier ≡ self.old.copier }
+        ensures registered { OnPending result (Covers cx.new (λ _. ⊥)) }
+        ensures kept { Keeps cx.old cx.new }
+    {
+        match self.task.poll(cx) {
+            Poll::Pending => Poll::Pending,
+            Poll::Ready(Err(why)) => Poll::Ready(Err(why)),
+            Poll::Ready(Ok((from, to))) => Poll::Ready(self.copier_over(from, to)),
+        }
+    }
+
+    fn copier_over(&self, from: Shared, to: Shared) -> io::Result<Copier<File<H, J>, File<H, J>>>
+        ensures going { IfOk result (λ copier. is_over copier.core.next ≡ false) }
+        ensures from { IfOk result (λ copier. copier.reader.file ≡ from) }
+        ensures to { IfOk result (λ copier. copier.writer.file ≡ to) }
+    {
+        let reader = file_over(&self.files, from)?;
+        let writer = file_over(&self.files, to)?;
+        Ok(Copier::new(self.alloc, reader, writer, PIECE)?)
+    }
+}
+
+impl<H: Runtime, J: Job + Carries<ReadJob<Shared, H>> + Carries<WriteJob<Shared, H>>> Future
+    for Copying<H, J> {
+    type Output = io::Result<u64>;
+
+    fn poll(&mut self, cx: &mut Context<'_>) -> Poll<io::Result<u64>>
+        ensures over { IfReady result (λ _. IsNone self.new.copier) }
+        ensures registered { OnPending result (Covers cx.new (λ _. ⊥)) }
+        ensures kept { Keeps cx.old cx.new }
+    {
+        if self.copier.is_none() {
+            match self.poll_open(cx) {
+                Poll::Pending => return Poll::Pending,
+                Poll::Ready(Err(why)) => return Poll::Ready(Err(why)),
+                Poll::Ready(Ok(copier)) => self.copier = Some(copier),
+            }
+        }
+        let Some(copier) = &mut self.copier else {
+            unreachable!()
+        };
+        match copier.poll(cx) {
+            Poll::Pending => Poll::Pending,
+            Poll::Ready(ended) => {
+                self.copier = None;
+                Poll::Ready(ended.map_err(io::Error::from))
+            }
+        }
+    }
+}

@@ -1,0 +1,123 @@
+//! The entries of a directory.
+ghost use Rattle.std.specs.Prelude.{◌≡◌, ◌<◌, IfOk, IfErr, IsNone, IsSomeAnd};
+ghost use Rattle.blocking_core.specs.declared.unblock.State.TheVariants.{Idle};
+ghost use Rattle.blocking_unblock.specs.Owners.{IsAt};
+ghost use Rattle.blocking_files.specs.Told.{IsFlat};
+
+use crate::calls::List;
+use crate::files::Files;
+use crate::job::FileJob;
+use crate::task::FileTask;
+use blocking::{CallJob, Carries, ItemJob, Job, Refusal, Runtime};
+use blocking_anytime::OpenItems;
+use futures::task::{Context, Poll};
+use futures::{Future, Stream};
+use std::alloc::AllocError;
+use std::fs::{DirEntry, ReadDir};
+use std::io;
+use std::io::ErrorKind;
+
+/// The entries of a directory, as a stream: a worker looks ahead, and who polls waits for the next entry alone.
+///
+/// An entry has a path and a name. What else the system knows of it is asked by [`Files::symlink_metadata`] of its path; the entry's own
+/// `metadata` would have the caller wait.
+#[derive(Drop)]
+pub struct Entries<H: Runtime, J: Job = FileJob<H>> {
+    owner: OpenItems<Box<ReadDir>, io::Result<DirEntry>, H, J>,
+}
+
+// How many entries a worker looks ahead at most.
+const AHEAD: usize = 256;
+
+impl<H: Runtime, J: Job> Entries<H, J> {
+    ghost use Rattle.blocking_unblock.specs.declared.place.Place.TheVariants.{Idle as AtOwner};
+
+    fn new(files: &Files<H, J>, entries: Box<ReadDir>) -> Result<Entries<H, J>, AllocError>
+        ensures { IfOk result (λ listed. listed.owner.owner.place ≡ AtOwner entries) }
+    {
+        let executor = files.executor().try_clone()?;
+        Ok(Entries {
+            owner: OpenItems::with_capacity(AHEAD, executor, entries),
+        })
+    }
+}
+
+// What a poll for an entry is told of what its owner's came to.
+fn flat<X>(polled: Poll<Option<Result<io::Result<X>, Refusal>>>) -> Poll<Option<io::Result<X>>>
+    ensures { IsFlat polled result }
+{
+    match polled {
+        Poll::Pending => Poll::Pending,
+        Poll::Ready(None) => Poll::Ready(None),
+        Poll::Ready(Some(Ok(entry))) => Poll::Ready(Some(entry)),
+        Poll::Ready(Some(Err(why))) => Poll::Ready(Some(Err(io::Error::from(why)))),
+    }
+}
+
+impl<H: Runtime, J: Job + Carries<ItemJob<Box<ReadDir>, io::Result<DirEntry>, H>>> Stream
+    for Entries<H, J> {
+    ghost use Rattle.futures.specs.Poll.{OnPending};
+    ghost use Rattle.futures.specs.Task.{Covers, Keeps};
+    ghost use Rattle.blocking_core.specs.declared.unblock.PollCall.TheVariants.{Next as NextCall};
+    ghost use Rattle.blocking_unblock.specs.Owners.{Follows, reply_of_next};
+
+    type Item = io::Result<DirEntry>;
+
+    /// The next entry, or None behind the last. It may be asked again.
+    fn poll_next(&mut self, cx: &mut Context<'_>) -> Poll<Option<io::Result<DirEntry>>>
+        ensures follows { (polled : _) × IsFlat polled result
+            × Follows NextCall self.old.owner.owner.place (reply_of_next polled) self.new.owner.owner.place }
+        ensures registered { OnPending result (Covers cx.new (λ _. ⊥)) }
+        ensures kept { Keeps cx.old cx.new }
+    {
+        flat(self.owner.poll_next(cx))
+    }
+}
+
+/// A directory that is being opened: a future of its entries. It may be polled at any time; behind its answer it is pending for good.
+#[derive(Drop)]
+pub struct Listing<H: Runtime, J: Job = FileJob<H>> {
+    task: FileTask<List, H>,
+    // What the directory is lent to, where there was a share of it.
+    files: Option<Files<H, J>>,
+}
+
+// The entries over a pool, of which there may be no share.
+fn entries_over<H: Runtime, J: Job>(
+    files: &Option<Files<H, J>>,
+    entries: Box<ReadDir>,
+) -> io::Result<Entries<H, J>>
+    ensures { IfOk result (λ listed. IsAt Idle listed.owner.owner.place) }
+{
+    match files {
+        Some(files) => Ok(Entries::new(files, entries)?),
+        None => Err(io::Error::from(ErrorKind::OutOfMemory)),
+    }
+}
+
+impl<H: Runtime, J: Job + Carries<CallJob<List, H>>> Listing<H, J> {
+    pub(crate) fn new(files: &Files<H, J>, call: Result<List, AllocError>) -> Listing<H, J>
+        ensures asked { IfOk call (λ call. IsSomeAnd result.task.asked (λ asked. asked.value ≡ call)) }
+        ensures refused { IfErr call (λ _. IsNone result.task.asked) }
+    {
+        Listing {
+            task: files.begin(call),
+            files: files.try_clone().ok(),
+        }
+    }
+}
+
+impl<H: Runtime, J: Job> Future for Listing<H, J> {
+    type Output = io::Result<Entries<H, J>>;
+
+    // The directory is with its owner: no session is under way.
+    ghost gives = { λ _ out. IfOk out (λ listed. IsAt Idle listed.owner.owner.place) };
+
+    fn poll(&mut self, cx: &mut Context<'_>) -> Poll<io::Result<Entries<H, J>>> {
+        match self.task.poll(cx) {
+            Poll::Pending => Poll::Pending,
+            Poll::Ready(Err(why)) => Poll::Ready(Err(why)),
+            Poll::Ready(Ok(entries)) => Poll::Ready(entries_over(&self.files, entries)),
+        }
+    }
+}

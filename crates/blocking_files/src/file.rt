@@ -1,0 +1,188 @@
+//! A file that is lent to a pool.
+ghost use Rattle.std.specs.Prelude.{◌≡◌, ◌+◌, ◌<◌, ◌≤◌, length, IfOk, IfSome};
+ghost use Rattle.std.specs.Arc.{arc_value};
+ghost use Rattle.futures.specs.Poll.{IfReady, OnPending};
+ghost use Rattle.futures.specs.Task.{IsArmed, Keeps};
+
+use crate::calls::{Change, Changes, Look, LookAt, Shared};
+use crate::changing::Changing;
+use crate::files::Files;
+use crate::job::FileJob;
+use crate::task::FileTask;
+use blocking::{
+    AsyncRead, AsyncSeek, AsyncWrite, CallJob, Carries, IoFault, Job, ReadJob, Runtime, SeekJob,
+    WriteJob,
+};
+use blocking_anytime::OpenReader;
+use futures::task::{Context, Poll};
+use std::alloc::AllocError;
+use std::io::SeekFrom;
+use std::sync::Arc;
+
+/// An open file, which a pool reads, writes and moves. Who polls waits for the pool alone.
+///
+/// It is open as long as it is there: dropping it closes it, and what was written and not flushed may be lost then. A flush that is ready says
+/// that all was written, and not that the disk has it: that is [`File::sync_all`].
+///
+/// A job reads ahead. So a write, or a seek from where the file is, goes on from further than what was read: seek from the start instead.
+#[derive(Drop)]
+pub struct File<H: Runtime, J: Job = FileJob<H>> {
+    owner: OpenReader<Shared, H, J>,
+    // The same file, of which the system is asked.
+    file: Shared,
+    files: Files<H, J>,
+}
+
+impl<H: Runtime, J: Job> File<H, J> {
+    ghost use Rattle.blocking_core.specs.declared.unblock.State.TheVariants.{Idle};
+    ghost use Rattle.blocking_unblock.specs.Owners.{IsAt};
+    ghost use Rattle.blocking_files.specs.Asked.{IsFileLook};
+
+    pub(crate) fn new(files: &Files<H, J>, file: Shared) -> Result<File<H, J>, AllocError>
+        ensures file { IfOk result (λ opened. opened.file ≡ file) }
+        ensures idle { IfOk result (λ opened. IsAt Idle opened.owner.owner.place) }
+    {
+        let lent = Arc::try_clone(&file)?;
+        let files = files.try_clone()?;
+        let executor = files.executor().try_clone()?;
+        Ok(File {
+            owner: OpenReader::new(executor, lent),
+            file,
+            files,
+        })
+    }
+
+    pub(crate) fn files(&self) -> &Files<H, J> {
+        &self.files
+    }
+
+    /// What the system knows of the file. It doesn't know of what was written and not flushed.
+    pub fn metadata(&self) -> FileTask<Look, H>
+    where
+        J: Carries<CallJob<Look, H>>,
+        ensures { IfSome result.asked (λ asked. IsFileLook (arc_value self.now.file) asked.value.what) }
+    {
+        self.files
+            .look(Arc::try_clone(&self.file).map(LookAt::File))
+    }
+}
+
+// What is changed of an open file.
+impl<H: Runtime, J: Job + Carries<CallJob<Change, H>> + Carries<WriteJob<Shared, H>>> File<H, J> {
+    ghost use Rattle.std.specs.Prelude.{IsNone, IsSomeAnd};
+    ghost use Rattle.blocking_files.specs.Asked.{IsSyncAll, IsSyncData, IsSetLen};
+
+    /// Flushes, and then has on the disk what was written and what the system knows of the file. A flush alone doesn't.
+    pub fn sync_all<'a>(&'a mut self) -> Changing<'a, H, J>
+        ensures file { result.file.ghost_name ≡ self.entry.ghost_name }
+        ensures asked { IsSomeAnd result.what (λ what. IfOk what (IsSyncAll (arc_value self.old.file))) }
+        ensures first { IsNone result.task }
+    {
+        let what = Arc::try_clone(&self.file).map(Changes::SyncAll);
+        Changing::new(self, what)
+    }
+
+    /// Flushes, and then has on the disk what was written. A flush alone doesn't.
+    pub fn sync_data<'a>(&'a mut self) -> Changing<'a, H, J>
+        ensures file { result.file.ghost_name ≡ self.entry.ghost_name }
+        ensures asked { IsSomeAnd result.what (λ what. IfOk what (IsSyncData (arc_value self.old.file))) }
+        ensures first { IsNone result.task }
+    {
+        let what = Arc::try_clone(&self.file).map(Changes::SyncData);
+        Changing::new(self, what)
+    }
+
+    /// Flushes, and then has the file cut or extended with zeros to so many bytes. The position stays. It doesn't mean that the disk has it.
+    pub fn set_len<'a>(&'a mut self, size: u64) -> Changing<'a, H, J>
+        ensures file { result.file.ghost_name ≡ self.entry.ghost_name }
+        ensures asked { IsSomeAnd result.what (λ what. IfOk what (IsSetLen (arc_value self.old.file) size)) }
+        ensures first { IsNone result.task }
+    {
+        let what = Arc::try_clone(&self.file).map(|file| Changes::SetLen(file, size));
+        Changing::new(self, what)
+    }
+}
+
+impl<H: Runtime, J: Job + Carries<ReadJob<Shared, H>>> AsyncRead for File<H, J> {
+    ghost use Rattle.blocking_core.specs.declared.unblock.PollCall.TheVariants.{Read as ReadCall};
+    ghost use Rattle.blocking_unblock.specs.Owners.{Follows, KeepsRefused, crossed_at, crossed_before, reply_of_count};
+
+    ghost closed = { λ _. ⊥ };
+
+    /// Reads the next bytes, as an owner does.
+    fn poll_read(&mut self, cx: &mut Context<'_>, buf: &mut [u8]) -> Poll<Result<usize, IoFault>>
+        ensures refused { KeepsRefused self.old.owner.owner.place (reply_of_count result) self.new.owner.owner.place }
+        ensures follows { Follows (ReadCall (length buf.old)) self.old.owner.owner.place (reply_of_count result) self.new.owner.owner.place }
+        ensures count { IfReady result (λ r. IfOk r (λ n. n ≤ length buf.old)) }
+        ensures crossed { IfReady result (λ r. IfOk r (λ n. 0 < n
+            → crossed_at self.new.owner.owner.place ≡ crossed_before (ReadCall (length buf.old)) self.old.owner.owner.place + n)) }
+        ensures file { self.new.file ≡ self.old.file }
+        ensures same_length { length buf.new ≡ length buf.old }
+        ensures armed { OnPending result (IsArmed cx.new) }
+        ensures kept { Keeps cx.old cx.new }
+    {
+        self.owner.poll_read(cx, buf)
+    }
+}
+
+impl<H: Runtime, J: Job + Carries<WriteJob<Shared, H>>> AsyncWrite for File<H, J> {
+    ghost use Rattle.std.specs.Prelude.{IsErr};
+    ghost use Rattle.blocking_core.specs.declared.unblock.PollCall.TheVariants.{Write as WriteCall, Flush as FlushCall};
+    ghost use Rattle.blocking_unblock.specs.Owners.{Follows, KeepsRefused, crossed_at, crossed_before, reply_of_count, reply_of_done};
+
+    ghost closed = { λ _. ⊥ };
+
+    /// Takes the first bytes, which are written later.
+    fn poll_write(&mut self, cx: &mut Context<'_>, bytes: &[u8]) -> Poll<Result<usize, IoFault>>
+        ensures refused { KeepsRefused self.old.owner.owner.place (reply_of_count result) self.new.owner.owner.place }
+        ensures follows { Follows (WriteCall (length bytes.now)) self.old.owner.owner.place (reply_of_count result) self.new.owner.owner.place }
+        ensures count { IfReady result (λ r. IfOk r (λ n. n ≤ length bytes.now)) }
+        ensures crossed { IfReady result (λ r. IfOk r (λ n. 0 < n
+            → crossed_at self.new.owner.owner.place ≡ crossed_before (WriteCall (length bytes.now)) self.old.owner.owner.place + n)) }
+        ensures file { self.new.file ≡ self.old.file }
+        ensures armed { OnPending result (IsArmed cx.new) }
+        ensures kept { Keeps cx.old cx.new }
+    {
+        self.owner.poll_write(cx, bytes)
+    }
+
+    /// Waits until all that was taken is written, or answers why it isn't. It doesn't mean that the disk has it: that is [`File::sync_all`].
+    fn poll_flush(&mut self, cx: &mut Context<'_>) -> Poll<Result<(), IoFault>>
+        ensures follows { Follows FlushCall self.old.owner.owner.place (reply_of_done result) self.new.owner.owner.place }
+        ensures file { self.new.file ≡ self.old.file }
+        ensures armed { OnPending result (IsArmed cx.new) }
+        ensures kept { Keeps cx.old cx.new }
+    {
+        self.owner.poll_flush(cx)
+    }
+
+    /// Flushes, which doesn't mean that the disk has it, and closes nothing: once that is done it answers an error of the kind `Unsupported`. A
+    /// drop closes a file.
+    fn poll_close(&mut self, cx: &mut Context<'_>) -> Poll<Result<(), IoFault>>
+        ensures closed { IfReady result (λ r. IsErr r) }
+        ensures file { self.new.file ≡ self.old.file }
+        ensures armed { OnPending result (IsArmed cx.new) }
+        ensures kept { Keeps cx.old cx.new }
+    {
+        self.owner.poll_close(cx)
+    }
+}
+
+impl<H: Runtime, J: Job + Carries<SeekJob<Shared, H>>> AsyncSeek for File<H, J> {
+    ghost use Rattle.blocking_core.specs.declared.unblock.PollCall.TheVariants.{Seek as SeekCall};
+    ghost use Rattle.blocking_unblock.specs.Owners.{Follows, KeepsRefused, reply_of_seek};
+    ghost use Rattle.blocking_unblock_jobs.specs.SeekJobs.{position_of};
+
+    ghost closed = { λ _. ⊥ };
+
+    /// Moves to a position. What was read ahead is lost, and what is to be written is written before.
+    fn poll_seek(&mut self, cx: &mut Context<'_>, to: SeekFrom) -> Poll<Result<u64, IoFault>>
+        ensures refused { KeepsRefused self.old.owner.owner.place (reply_of_seek result) self.new.owner.owner.place }
+        ensures follows { Follows (SeekCall (position_of to)) self.old.owner.owner.place (reply_of_seek result) self.new.owner.owner.place }
+        ensures file { self.new.file ≡ self.old.file }
+        ensures armed { OnPending result (IsArmed cx.new) }
+        ensures kept { Keeps cx.old cx.new }
+    {
+        self.owner.poll_seek(cx, to)
+    }
+}

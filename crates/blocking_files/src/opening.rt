@@ -1,0 +1,65 @@
+//! A file that is being opened.
+ghost use Rattle.std.specs.Prelude.{◌≡◌, IfOk, IfErr, IsNone, IsSomeAnd};
+ghost use Rattle.blocking_core.specs.declared.unblock.State.TheVariants.{Idle};
+ghost use Rattle.blocking_unblock.specs.Owners.{IsAt};
+
+use crate::calls::{Open, Shared};
+use crate::file::File;
+use crate::files::Files;
+use crate::job::FileJob;
+use crate::task::FileTask;
+use blocking::{CallJob, Carries, Job, Runtime};
+use futures::Future;
+use futures::task::{Context, Poll};
+use std::alloc::AllocError;
+use std::io;
+use std::io::ErrorKind;
+
+/// A file that is being opened: a future of it. It may be polled at any time; behind its answer it is pending for good.
+#[derive(Drop)]
+pub struct Opening<H: Runtime, J: Job = FileJob<H>> {
+    task: FileTask<Open, H>,
+    // What the file is lent to, where there was a share of it.
+    files: Option<Files<H, J>>,
+}
+
+// The file over a pool, of which there may be no share.
+pub(crate) fn file_over<H: Runtime, J: Job>(
+    files: &Option<Files<H, J>>,
+    file: Shared,
+) -> io::Result<File<H, J>>
+    ensures file { IfOk result (λ opened. opened.file ≡ file) }
+    ensures idle { IfOk result (λ opened. IsAt Idle opened.owner.owner.place) }
+{
+    match files {
+        Some(files) => Ok(File::new(files, file)?),
+        None => Err(io::Error::from(ErrorKind::OutOfMemory)),
+    }
+}
+
+impl<H: Runtime, J: Job + Carries<CallJob<Open, H>>> Opening<H, J> {
+    pub(crate) fn new(files: &Files<H, J>, call: Result<Open, AllocError>) -> Opening<H, J>
+        ensures asked { IfOk call (λ call. IsSomeAnd result.task.asked (λ asked. asked.value ≡ call)) }
+        ensures refused { IfErr call (λ _. IsNone result.task.asked) }
+    {
+        Opening {
+            task: files.begin(call),
+            files: files.try_clone().ok(),
+        }
+    }
+}
+
+impl<H: Runtime, J: Job> Future for Opening<H, J> {
+    type Output = io::Result<File<H, J>>;
+
+    // The file is with its owner: no session is under way.
+    ghost gives = { λ _ out. IfOk out (λ file. IsAt Idle file.owner.owner.place) };
+
+    fn poll(&mut self, cx: &mut Context<'_>) -> Poll<io::Result<File<H, J>>> {
+        match self.task.poll(cx) {
+            Poll::Pending => Poll::Pending,
+            Poll::Ready(Err(why)) => Poll::Ready(Err(why)),
+            Poll::Ready(Ok(file)) => Poll::Ready(file_over(&self.files, file)),
+        }
+    }
+}

@@ -1,0 +1,138 @@
+//! Files that are open. What reads, writes and moves is written over anything that is never closed, which costs less to prove.
+use crate::folder::{folder, now};
+use blocking::{
+    AsyncRead, AsyncReadExt, AsyncSeek, AsyncSeekExt, AsyncWrite, AsyncWriteExt, Executor, Host,
+    set_max_blocking_threads,
+};
+use blocking_files::{CarriesFiles, File, FileJob, Files};
+use futures::executor::block_on;
+use std::fs::OpenOptions;
+use std::io::{ErrorKind, SeekFrom};
+use std::path::Path;
+use std::test::Fail;
+use std::{fs, io};
+
+// Writes what is read later, and flushes.
+fn write<A: AsyncWrite, H: Host>(rt: H, file: &mut A) -> io::Result<()>
+    requires { (any : A) → A.closed any → ⊥ }
+{
+    block_on(&rt, file.write_all(b"oaks and "))??;
+    block_on(&rt, file.write_all(b"elms"))??;
+    block_on(&rt, file.flush())??;
+    Ok(())
+}
+
+// Moves to the middle, and reads what stands there.
+fn read_middle<A: AsyncRead + AsyncSeek, H: Host>(rt: H, file: &mut A) -> io::Result<(u64, [u8; 3])>
+    requires reader { (any : A) → A.AsyncRead.closed any → ⊥ }
+    requires seeker { (any : A) → A.AsyncSeek.closed any → ⊥ }
+{
+    let place = block_on(&rt, file.seek(SeekFrom::Start(5)))??;
+    let mut three = [0u8; 3];
+    block_on(&rt, file.read_exact(&mut three))??;
+    Ok((place, three))
+}
+
+// Cuts all but four bytes off, and has it on the disk.
+fn cut<H: Host, J: CarriesFiles<H>>(rt: H, file: &mut File<H, J>) -> io::Result<()> {
+    now(&rt, file.set_len(4))?;
+    now(&rt, file.sync_data())?;
+    now(&rt, file.sync_all())
+}
+
+// Closes, and moves to the end: how the close failed, and where the end is.
+fn close_and_move<A: AsyncWrite + AsyncSeek, H: Host>(
+    rt: H,
+    file: &mut A,
+) -> io::Result<(ErrorKind, u64)>
+    requires writer { (any : A) → A.AsyncWrite.closed any → ⊥ }
+    requires seeker { (any : A) → A.AsyncSeek.closed any → ⊥ }
+{
+    let kind = match block_on(&rt, file.close())? {
+        Ok(()) => ErrorKind::Other,
+        Err(why) => io::Error::from(why).kind(),
+    };
+    Ok((kind, block_on(&rt, file.seek(SeekFrom::End(0)))??))
+}
+
+// How many bytes a file had before it was cut, what stood in its middle, how its close failed, and where its end is then.
+#[derive(Drop)]
+struct Seen {
+    length: u64,
+    middle: (u64, [u8; 3]),
+    closed: (ErrorKind, u64),
+}
+
+fn use_file<H: Host, J: CarriesFiles<H>>(rt: H, file: &mut File<H, J>) -> io::Result<Seen> {
+    write(rt, file)?;
+    let length = now(&rt, file.metadata())?.len();
+    let middle = read_middle(rt, file)?;
+    cut(rt, file)?;
+    Ok(Seen {
+        length,
+        middle,
+        closed: close_and_move(rt, file)?,
+    })
+}
+
+fn open_and_use<H: Host, J: CarriesFiles<H>>(
+    rt: H,
+    files: &Files<H, J>,
+    path: Path<'_>,
+) -> io::Result<Seen> {
+    let mut how = OpenOptions::new();
+    how.read(true).write(true).create(true);
+    let mut file = now(&rt, files.open_with(how, path))?;
+    use_file(rt, &mut file)
+}
+
+// (over a pool of one thread that is there already)
+fn used<H: Host>(rt: H, system: HostRuntime, path: Path<'_>) -> io::Result<Seen> {
+    let executor: Executor<FileJob<H>, H> = Executor::new(rt, Some("2"))?;
+    set_max_blocking_threads(&executor, 1);
+    open_and_use(rt, &Files::over(executor, system), path)
+}
+
+#[test]
+fn one_file_is_written_moved_read_and_cut(rt: HostRuntime) -> Result<(), Fail> {
+    let folder = folder(rt, "blocking_files_open")?;
+    let path = folder.join(rt.alloc(), "a")?;
+    let seen = used(rt, rt, path.as_path())?;
+    assert_eq!(rt; seen.length, 13);
+    assert_eq!(rt; seen.middle.0, 5);
+    assert_eq!(rt; seen.middle.1.as_slice(), b"and".as_slice());
+    assert_eq!(rt; seen.closed.0, ErrorKind::Unsupported);
+    assert_eq!(rt; seen.closed.1, 4, "it is open still");
+    assert_eq!(rt; fs::read(&rt, &path)?.as_slice(), b"oaks".as_slice());
+    fs::remove_dir_all(&rt, &folder)?;
+    Ok(())
+}
+
+// Writes to a file that is open for reading alone: whether a sync fails, and whether a flush after it does.
+fn write_to_a_reader<H: Host, J: CarriesFiles<H>>(
+    rt: H,
+    files: &Files<H, J>,
+    path: Path<'_>,
+) -> io::Result<(bool, bool)> {
+    let mut file = now(&rt, files.open(path))?;
+    block_on(&rt, file.write_all(b"elms"))??;
+    let sync_failed = now(&rt, file.sync_all()).is_err();
+    let flush_failed = block_on(&rt, file.flush())?.is_err();
+    Ok((sync_failed, flush_failed))
+}
+
+fn faults<H: Host>(rt: H, system: HostRuntime, path: Path<'_>) -> io::Result<(bool, bool)> {
+    write_to_a_reader(rt, &Files::new(rt, system, Some("2"))?, path)
+}
+
+#[test]
+fn what_a_write_failed_with_is_told_by_a_sync(rt: HostRuntime) -> Result<(), Fail> {
+    let folder = folder(rt, "blocking_files_faults")?;
+    let path = folder.join(rt.alloc(), "a")?;
+    fs::write(&rt, &path, "oaks")?;
+    let (sync_failed, flush_failed) = faults(rt, rt, path.as_path())?;
+    assert!(rt; sync_failed && !flush_failed);
+    assert_eq!(rt; fs::read(&rt, &path)?.as_slice(), b"oaks".as_slice());
+    fs::remove_dir_all(&rt, &folder)?;
+    Ok(())
+}
