@@ -1,5 +1,5 @@
 //! A call on files under way.
-ghost use Rattle.std.specs.Prelude.{◌≡◌, ◌↔◌, true, false, is_some, Some, IfOk, IfErr, IfSome, IsErr, IsNone, IsSomeAnd};
+ghost use Rattle.std.specs.Prelude.{◌≡◌, ◌↔◌, true, false, is_some, Some, IfOk, IfErr, IfSome, IsErr, IsNone, IsSome, IsSomeAnd};
 ghost use Rattle.std.specs.Option.{ForSome};
 
 use blocking::{Call, CallJob, Carries, Executor, Job, Runtime, Task, unblock};
@@ -102,9 +102,13 @@ impl<F: Call<Out: Drop> + Drop, H: Runtime> Future for FileTask<F, H> {
     fn poll(&mut self, cx: &mut Context<'_>) -> Poll<F::Out>
         ensures refused { IfSome self.old.refused (λ answer. result ≡ Poll.Ready answer) }
         ensures behind { IsNone self.old.task → IsNone self.old.refused → result ≡ Poll.Pending }
+        ensures value { IsNone self.old.refused → IfReady result (λ out. IsSome self.old.task × F.may_give out) }
         ensures taken { IfReady result (λ _. IsNone self.new.task × IsNone self.new.refused) }
+        ensures waits { OnPending result (IsSome self.new.task ↔ IsSome self.old.task) }
+        ensures seated { OnPending result (IfSome self.new.task (λ task. IsSome task.asked)) }
         ensures asked { self.new.asked ≡ self.old.asked }
-        ensures registered { OnPending result (Covers cx.new (λ _. ⊥)) }
+        ensures registered { OnPending result
+            (Covers cx.new (λ source. IsSomeAnd self.new.task (λ task. source ≡ task.source.id))) }
         ensures kept { Keeps cx.old cx.new }
     {
         if let Some(answer) = self.refused.take() {
