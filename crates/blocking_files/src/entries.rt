@@ -1,5 +1,5 @@
 //! The entries of a directory.
-ghost use Rattle.std.specs.Prelude.{◌≡◌, ◌<◌, IfOk, IfErr, IfSome, IsNone, IsSome, IsSomeAnd};
+ghost use Rattle.std.specs.Prelude.{◌≡◌, ◌<◌, IfOk, IfErr, IsNone, IsSomeAnd};
 ghost use Rattle.blocking_core.specs.declared.unblock.State.TheVariants.{Idle};
 ghost use Rattle.blocking_unblock.specs.Owners.{IsAt};
 ghost use Rattle.blocking_files.specs.Told.{IsFlat};
@@ -108,21 +108,12 @@ impl<H: Runtime, J: Job + Carries<CallJob<List, H>>> Listing<H, J> {
 }
 
 impl<H: Runtime, J: Job> Future for Listing<H, J> {
-    ghost use Rattle.futures.specs.Poll.{IfReady, OnPending};
-    ghost use Rattle.futures.specs.Task.{Covers, Keeps};
-
     type Output = io::Result<Entries<H, J>>;
 
     // The directory is with its owner: no session is under way.
     ghost gives = { λ _ out. IfOk out (λ listed. IsAt Idle listed.owner.owner.place) };
 
-    fn poll(&mut self, cx: &mut Context<'_>) -> Poll<io::Result<Entries<H, J>>>
-        ensures seated { OnPending result (IfSome self.new.task.task (λ task. IsSome task.asked)) }
-        ensures taken { IfReady result (λ _. IsNone self.new.task.task × IsNone self.new.task.refused) }
-        ensures registered { OnPending result
-            (Covers cx.new (λ source. IsSomeAnd self.new.task.task (λ task. source ≡ task.source.id))) }
-        ensures kept { Keeps cx.old cx.new }
-    {
+    fn poll(&mut self, cx: &mut Context<'_>) -> Poll<io::Result<Entries<H, J>>> {
         match self.task.poll(cx) {
             Poll::Pending => Poll::Pending,
             Poll::Ready(Err(why)) => Poll::Ready(Err(why)),
