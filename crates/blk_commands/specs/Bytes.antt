@@ -1,5 +1,6 @@
 -- Which bytes a word says.
-use Rattle.std.specs.Prelude.{◌≡◌, ◌≢◌, ℕ, ◌==◌, ◌&&◌, not, Bool, List, [], length, codes, bytes_eq, Option, Some, None, if◌then◌else◌}
+use Rattle.std.specs.Prelude.{◌≡◌, ◌≢◌, ℕ, ◌==◌, ◌&&◌, not, Bool, List, [], length, codes, bytes_eq}
+use Rattle.std.specs.Prelude.{Option, Some, None, if◌then◌else◌}
 use Rattle.std.specs.Char.{is_ascii_uppercase}
 use Rattle.std.specs.List.{list_all}
 use Rattle.std.specs.Result.{result_ok}
@@ -10,7 +11,8 @@ use Rattle.blocking_world_laws.specs.Hex.{hex_text}
 abbrev pub may_be_digits : List ℕ → Bool
 may_be_digits word = not (length word == 0) && list_all (λ byte. not (is_ascii_uppercase byte)) word
 
--- the bytes that a word says, if it says any: two digits a byte, of base 16 and with small letters, and a dash for none
+-- the bytes that a word says, if it says any: two digits a byte, of base 16 and with small letters,
+-- and a dash for none
 abbrev pub bytes_of : List ℕ → Option (List ℕ)
 bytes_of word =
     if bytes_eq word (codes "-") then Some []

@@ -1,7 +1,8 @@
 -- What is said of a fault, and with which status.
 use Rattle.std.specs.Prelude.{ℕ, List, ◌++◌, codes, decimal}
 use Rattle.blk_commands.specs.declared.fault.BlkFault.{BlkFault}
-use Rattle.blk_commands.specs.declared.fault.BlkFault.TheVariants.{Refused, Reading, Writing, Running}
+use Rattle.blk_commands.specs.declared.fault.BlkFault.TheVariants.{Refused, Reading, Writing}
+use Rattle.blk_commands.specs.declared.fault.BlkFault.TheVariants.{Running}
 use Rattle.blk_commands.specs.declared.fault.CommandFault.{CommandFault}
 use Rattle.blk_commands.specs.declared.fault.CommandFault.TheVariants.{Failed, NotText, NotAStep}
 use Rattle.blk_commands.specs.declared.script.ScriptFault.{ScriptFault}

@@ -1,13 +1,23 @@
 -- Which instruction the words of a line are.
-use Rattle.std.specs.Prelude.{ℕ, ◌==◌, Bool, List, [], ◌∷◌, codes, bytes_eq, Option, Some, None, option_map, if◌then◌else◌}
+use Rattle.std.specs.Prelude.{ℕ, ◌==◌, Bool, List, [], ◌∷◌, codes, bytes_eq, Option, Some, None}
+use Rattle.std.specs.Prelude.{option_map, if◌then◌else◌}
 use Rattle.std.specs.List.{slice_split}
 use Rattle.std.specs.Option.{option_and_then}
 use Rattle.blocking_world_laws.specs.declared.step.Answer.{Answer}
-use Rattle.blocking_world_laws.specs.declared.step.Answer.TheVariants.{Number, Gave, Fine, Item, NoItem, Failed}
+use Rattle.blocking_world_laws.specs.declared.step.Answer.TheVariants.{Number, Gave, Fine, Item}
+use Rattle.blocking_world_laws.specs.declared.step.Answer.TheVariants.{NoItem, Failed}
 use Rattle.blocking_world_laws.specs.declared.step.HandleCall.{HandleCall}
-use Rattle.blocking_world_laws.specs.declared.step.HandleCall.TheVariants.{Read, Write, Flush, Close, Seek, Next, Operate, OperateAgain, GetMut, IntoInner}
+use Rattle.blocking_world_laws.specs.declared.step.HandleCall.TheVariants.{Read, Write, Flush}
+use Rattle.blocking_world_laws.specs.declared.step.HandleCall.TheVariants.{Close, Seek, Next}
+use Rattle.blocking_world_laws.specs.declared.step.HandleCall.TheVariants.{Operate, OperateAgain}
+use Rattle.blocking_world_laws.specs.declared.step.HandleCall.TheVariants.{GetMut, IntoInner}
 use Rattle.blocking_world_laws.specs.declared.step.Step.{Step}
-use Rattle.blocking_world_laws.specs.declared.step.Step.TheVariants.{New, Ask, Own, DropOwner, Spawn, OfTask, Arrive, Take, Job, Io, End, Wait, Late, SetLimit, SetClientLimit, Sweep, Stray, Strike, Link, Copy}
+use Rattle.blocking_world_laws.specs.declared.step.Step.TheVariants.{New, Ask, Own, DropOwner}
+use Rattle.blocking_world_laws.specs.declared.step.Step.TheVariants.{Spawn, OfTask, Arrive, Take}
+use Rattle.blocking_world_laws.specs.declared.step.Step.TheVariants.{Job, Io, End, Wait, Late}
+use Rattle.blocking_world_laws.specs.declared.step.Step.TheVariants.{SetLimit, SetClientLimit}
+use Rattle.blocking_world_laws.specs.declared.step.Step.TheVariants.{Sweep, Stray, Strike, Link}
+use Rattle.blocking_world_laws.specs.declared.step.Step.TheVariants.{Copy}
 use Rattle.blocking_world_laws.specs.declared.step.TaskCall.{TaskCall}
 use Rattle.blocking_world_laws.specs.declared.step.TaskCall.TheVariants.{Poll, Cancel, Detach, Drop}
 use Rattle.blk_commands.specs.Bytes.{bytes_of}
@@ -35,7 +45,8 @@ plain_step name =
 
 -- the client limit that a word says: a number, or none
 abbrev pub client_limit_of : List ℕ → Option (Option ℕ)
-client_limit_of word = if bytes_eq word (codes "none") then Some None else option_map Some (number_of 64 word)
+client_limit_of word =
+    if bytes_eq word (codes "none") then Some None else option_map Some (number_of 64 word)
 
 -- the owner whose pipes hold so many bytes, and whose client isn't named
 abbrev pub new_of : ℕ → Step
@@ -98,22 +109,27 @@ plain_answer kind =
 
 -- the call that is made for the client whom the words name
 abbrev pub spawn_of : List ℕ → List ℕ → Option Step
-spawn_of word client = if bytes_eq word (codes "for") then option_map Spawn (number_of 32 client) else None
+spawn_of word client =
+    if bytes_eq word (codes "for") then option_map Spawn (number_of 32 client) else None
 
--- what three words ask for: a call of the task or of the owner that the number names, an answer to its worker's job, or a call that is made for
--- a client
+-- what three words ask for: a call of the task or of the owner that the number names, an answer to
+-- its worker's job, or a call that is made for a client
 abbrev pub worded_step : List ℕ → List ℕ → List ℕ → Option Step
 worded_step name word what =
-    if bytes_eq name (codes "task") then option_and_then (λ k. option_map (OfTask k) (task_call what)) (number_of 64 word)
-    else (if bytes_eq name (codes "ask") then option_and_then (λ h. option_map (Ask h) (plain_call what)) (number_of 64 word)
-    else (if bytes_eq name (codes "io") then option_and_then (λ w. option_map (Io w) (plain_answer what)) (number_of 64 word)
+    if bytes_eq name (codes "task")
+    then option_and_then (λ k. option_map (OfTask k) (task_call what)) (number_of 64 word)
+    else (if bytes_eq name (codes "ask")
+    then option_and_then (λ h. option_map (Ask h) (plain_call what)) (number_of 64 word)
+    else (if bytes_eq name (codes "io")
+    then option_and_then (λ w. option_map (Io w) (plain_answer what)) (number_of 64 word)
     else (if bytes_eq name (codes "spawn") then spawn_of word what
     else None)))
 
 -- the instruction that three words are: all the actions of an actor, or what the words ask for
 abbrev pub longer_instruction : List ℕ → List ℕ → List ℕ → Option Instruction
 longer_instruction name word what =
-    if bytes_eq what (codes "*") then option_map AllOf (actor_named name word) else option_map One (worded_step name word what)
+    if bytes_eq what (codes "*") then option_map AllOf (actor_named name word)
+    else option_map One (worded_step name word what)
 
 -- ---- four words
 
@@ -134,21 +150,29 @@ answer_of kind value =
     else (if bytes_eq kind (codes "fault") then option_map Failed (number_of 64 value)
     else None)))
 
--- the copier that reads this owner, writes the one that the first word names, and reads at most as many bytes at once as the second says
+-- the copier that reads this owner, writes the one that the first word names, and reads at most as
+-- many bytes at once as the second says
 abbrev pub link_of : ℕ → List ℕ → List ℕ → Option Step
-link_of a writer piece = option_and_then (λ b. option_map (Link a b) (number_of 64 piece)) (number_of 64 writer)
+link_of a writer piece =
+    option_and_then (λ b. option_map (Link a b) (number_of 64 piece)) (number_of 64 writer)
 
 -- the owner whose pipes hold so many bytes, for the client whom the words name
 abbrev pub owner_of : ℕ → List ℕ → List ℕ → Option Step
-owner_of capacity word client = if bytes_eq word (codes "for") then option_map (New capacity) (number_of 32 client) else None
+owner_of capacity word client =
+    if bytes_eq word (codes "for") then option_map (New capacity) (number_of 32 client) else None
 
--- what four words ask for: a call of an owner, an answer to a worker's job, a copier that is made, or an owner for a client
+-- what four words ask for: a call of an owner, an answer to a worker's job, a copier that is made,
+-- or an owner for a client
 abbrev pub longer_step : List ℕ → List ℕ → List ℕ → List ℕ → Option Step
 longer_step name word what value =
-    if bytes_eq name (codes "ask") then option_and_then (λ h. option_map (Ask h) (longer_call what value)) (number_of 64 word)
-    else (if bytes_eq name (codes "io") then option_and_then (λ w. option_map (Io w) (answer_of what value)) (number_of 64 word)
-    else (if bytes_eq name (codes "link") then option_and_then (λ a. link_of a what value) (number_of 64 word)
-    else (if bytes_eq name (codes "new") then option_and_then (λ capacity. owner_of capacity what value) (number_of 64 word)
+    if bytes_eq name (codes "ask")
+    then option_and_then (λ h. option_map (Ask h) (longer_call what value)) (number_of 64 word)
+    else (if bytes_eq name (codes "io")
+    then option_and_then (λ w. option_map (Io w) (answer_of what value)) (number_of 64 word)
+    else (if bytes_eq name (codes "link")
+    then option_and_then (λ a. link_of a what value) (number_of 64 word)
+    else (if bytes_eq name (codes "new")
+    then option_and_then (λ capacity. owner_of capacity what value) (number_of 64 word)
     else None)))
 
 -- ---- all words

@@ -1,5 +1,6 @@
 -- What a script makes happen, and what is shown of it.
-use Rattle.std.specs.Prelude.{◌≡◌, ℕ, ◌<◌, Bool, true, false, List, [], ◌∷◌, ◌++◌, length, map, reverse, take, codes, decimal, Option, Some, None}
+use Rattle.std.specs.Prelude.{◌≡◌, ℕ, ◌<◌, Bool, true, false, List, [], ◌∷◌, ◌++◌, length, map}
+use Rattle.std.specs.Prelude.{reverse, take, codes, decimal, Option, Some, None}
 use Rattle.std.specs.List.{All, flat_map}
 use Rattle.blocking_pool.specs.Limits.{limit_of_setting}
 use Rattle.blocking_world_laws.specs.Counts.{idle, workers}
@@ -30,34 +31,44 @@ abbrev pub step_of : Actor → Step
 step_of (JobOf worker) = Job worker
 step_of (PollOf h) = Own h
 
--- whether an actor has a next action: a job one that is its own to take, and the poll of an owner while it is under way
+-- whether an actor has a next action: a job one that is its own to take, and the poll of an owner
+-- while it is under way
 abbrev pub has_next : Actor → List Moment → Bool
 has_next (JobOf worker) past = has_action past (Job worker)
 has_next (PollOf h) past = is_poll_under_way h past
 
--- these moments are of this actor's step alone, there is one at least, and before each but the first the actor had an action
+-- these moments are of this actor's step alone, there is one at least, and before each but the
+-- first the actor had an action
 pub record Repeats (actor : Actor) (past moments : List Moment) : Type 0 where
   pub some : 0 < length moments
   pub same : All (λ moment. moment.step ≡ step_of actor) moments
-  pub goes_on : (k : ℕ) → 0 < k → k < length moments → has_next actor (after (take k moments) past) ≡ true
+  pub goes_on : (k : ℕ) → 0 < k → k < length moments
+      → has_next actor (after (take k moments) past) ≡ true
 
--- what an instruction makes happen after what was seen: its step, or the actions of an actor until it has none
+-- what an instruction makes happen after what was seen: its step, or the actions of an actor until
+-- it has none
 abbrev pub PlaysInstruction : Instruction → List Moment → List Moment → Type 0
-PlaysInstruction (One step) past moments = (moment : Moment) × (moment.step ≡ step) × (moments ≡ moment ∷ [])
-PlaysInstruction (AllOf actor) past moments = Repeats actor past moments × (has_next actor (after moments past) ≡ false)
+PlaysInstruction (One step) past moments =
+    (moment : Moment) × (moment.step ≡ step) × (moments ≡ moment ∷ [])
+PlaysInstruction (AllOf actor) past moments =
+    Repeats actor past moments × (has_next actor (after moments past) ≡ false)
 
 -- what instructions make happen, one after the other
 abbrev pub PlaysInstructions : List Instruction → List Moment → List Moment → Type 0
 PlaysInstructions [] past moments = moments ≡ []
 PlaysInstructions (instruction ∷ instructions) past moments =
-    (now : List Moment) × (later : List Moment) × (moments ≡ now ++ later) × PlaysInstruction instruction past now × PlaysInstructions instructions (after now past) later
+    (now : List Moment) × (later : List Moment)
+    × (moments ≡ now ++ later) × PlaysInstruction instruction past now
+    × PlaysInstructions instructions (after now past) later
 
 -- what was seen is legal
 abbrev pub IsLegal : History → Type 0
 IsLegal history = Legal history.setting history.plan history.past
 
--- So much was taken: these moments came after what was seen before, with these events, and leave it legal.
-pub record Takes (Plays : List Moment → List Moment → Type 0) (old new : History) (before events : List Event) : Type 0 where
+-- So much was taken: these moments came after what was seen before, with these events, and leave it
+-- legal.
+pub record Takes (Plays : List Moment → List Moment → Type 0) (old new : History)
+    (before events : List Event) : Type 0 where
   pub moments : List Moment
   pub plays : Plays old.past moments
   pub follow : Follow moments old new
@@ -92,14 +103,17 @@ ending_of history = record {
 
 -- the events, each on a line, and the ending
 abbrev pub shown_text : List Event → Ending → List ℕ
-shown_text events ending = flat_map (λ event. line_of (event_text event)) events ++ line_of (ending_text ending)
+shown_text events ending =
+    flat_map (λ event. line_of (event_text event)) events ++ line_of (ending_text ending)
 
 -- a world of this plan and the setting of this text, in which nothing was seen yet
 abbrev pub new_history : Option (List ℕ) → List Bool → History
 new_history setting plan = record { setting = limit_of_setting setting; plan = plan; past = [] }
 
--- A text shows a script: what its instructions make happen in a new world of its setting and its plan.
-pub record ShowsScript (setting : Option (List ℕ)) (plan : List Bool) (instructions : List Instruction) (text : List ℕ) : Type 0 where
+-- A text shows a script: what its instructions make happen in a new world of its setting and its
+-- plan.
+pub record ShowsScript (setting : Option (List ℕ)) (plan : List Bool)
+    (instructions : List Instruction) (text : List ℕ) : Type 0 where
   pub moments : List Moment
   pub end : History
   pub plays : PlaysInstructions instructions [] moments

@@ -1,5 +1,7 @@
 -- What a script's lines say together.
-use Rattle.std.specs.Prelude.{◌≡◌, ℕ, ◌+◌, ◌<◌, ◌==◌, ◌&&◌, Bool, true, false, List, [], ◌∷◌, ◌++◌, length, take, map, slice_get, Option, Some, None, option_map, is_none, Result, Ok, Err, string_bytes}
+use Rattle.std.specs.Prelude.{◌≡◌, ℕ, ◌+◌, ◌<◌, ◌==◌, ◌&&◌, Bool, true, false, List, [], ◌∷◌, ◌++◌}
+use Rattle.std.specs.Prelude.{length, take, map, slice_get, Option, Some, None, option_map, is_none}
+use Rattle.std.specs.Prelude.{Result, Ok, Err, string_bytes}
 use Rattle.std.specs.List.{after_first, filter_map, flat_map, slice_index_or, slice_split}
 use Rattle.blk_commands.specs.Instructions.{is_space}
 use Rattle.blk_commands.specs.Lines.{is_minus, saying_of}
@@ -43,7 +45,8 @@ instructions_in lines = filter_map (λ line. instruction_said (saying_of line)) 
 
 -- ---- which lines may stand where
 
--- whether what a line says may be said: a setting and a plan before the first instruction alone, and each once
+-- whether what a line says may be said: a setting and a plan before the first instruction alone,
+-- and each once
 abbrev pub may_say : Option Saying → Bool → Bool → Bool → Bool
 may_say None at_head unset unplanned = false
 may_say (Some Nothing) at_head unset unplanned = true
@@ -54,7 +57,8 @@ may_say (Some (Does _)) at_head unset unplanned = true
 -- whether a line may stand behind these
 abbrev pub may_follow : List (List ℕ) → List ℕ → Bool
 may_follow before line =
-    may_say (saying_of line) (length (instructions_in before) == 0) (is_none (setting_in before)) (length (plan_in before) == 0)
+    may_say (saying_of line) (length (instructions_in before) == 0) (is_none (setting_in before))
+    (length (plan_in before) == 0)
 
 -- each of the first n lines may stand behind those before it
 abbrev pub AllMayStand : List (List ℕ) → ℕ → Type 0
@@ -76,7 +80,8 @@ pub record IsScriptOf (said : List (List ℕ)) (script : Script) : Type 0 where
 
 -- ---- reading
 
--- what the reading of lines answers: the script, where each line may stand where it stands, or the first line that may not
+-- what the reading of lines answers: the script, where each line may stand where it stands, or the
+-- first line that may not
 abbrev pub Reads : List (List ℕ) → Result Script ScriptFault → Type 0
 Reads lines (Ok script) = AllMayStand lines (length lines) × IsScriptOf lines script
 Reads lines (Err (NotAStep number)) = IsFirstBadLine lines number
@@ -84,6 +89,8 @@ Reads lines (Err Memory) = Unit {0}
 
 -- what the reading of one more line answers
 abbrev pub AddsLine : List (List ℕ) → List ℕ → ℕ → Script → Result (Unit {0}) ScriptFault → Type 0
-AddsLine before line number script (Ok _) = (may_follow before line ≡ true) × IsScriptOf (before ++ line ∷ []) script
-AddsLine before line number script (Err (NotAStep n)) = (may_follow before line ≡ false) × (n ≡ number)
+AddsLine before line number script (Ok _) =
+    (may_follow before line ≡ true) × IsScriptOf (before ++ line ∷ []) script
+AddsLine before line number script (Err (NotAStep n)) =
+    (may_follow before line ≡ false) × (n ≡ number)
 AddsLine before line number script (Err Memory) = Unit {0}

@@ -10,9 +10,11 @@ use Rattle.blocking_unblock_jobs.specs.SeekJobs.{IsStepped as IsSeekStep}
 use Rattle.blocking.specs.declared.jobs.Jobs.{Jobs}
 use Rattle.blocking.specs.declared.jobs.Jobs.TheVariants.{Call, Read, Write, Item, Seek, Op}
 
-module _ {H F R W D S O T FOut I OOut : Type 0} (remaining : R → Option (List ℕ)) (contents : W → Option (List ℕ)) (gives : D → Option I → D → Type 0)
+module _ {H F R W D S O T FOut I OOut : Type 0} (remaining : R → Option (List ℕ))
+    (contents : W → Option (List ℕ)) (gives : D → Option I → D → Type 0)
     (position : S → Option ℕ) (bytes : S → Option (List ℕ)) (may_give : OOut → Type 0) where
-  abbrev pub StepsAs : Jobs H F R W D S O T FOut I OOut → Jobs H F R W D S O T FOut I OOut → JobStep → Type 0
+  abbrev pub StepsAs : Jobs H F R W D S O T FOut I OOut → Jobs H F R W D S O T FOut I OOut → JobStep
+      → Type 0
   StepsAs (Call old) (Call new) told = IsAnswered old.next new.next × (told ≡ told_by new.next)
   StepsAs (Read old) (Read new) told = IsReadStep remaining old new told
   StepsAs (Write old) (Write new) told = IsWriteStep contents old new told

@@ -12,8 +12,10 @@ use Rattle.futures.specs.declared.task.Poll.TheVariants.{Ready, Pending}
 abbrev pub Answer : Type 0
 Answer = Poll (Result (Unit {0}) (Fault Error))
 
--- A close waits as its flush does, and tells its fault. Where the flush was made it says that nothing is closed.
+-- A close waits as its flush does, and tells its fault. Where the flush was made it says that
+-- nothing is closed.
 abbrev pub IsUnclosed : Answer → Answer → Type 0
 IsUnclosed Pending close = close ≡ Pending
 IsUnclosed (Ready (Err why)) close = close ≡ Ready (Err why)
-IsUnclosed (Ready (Ok _)) close = (error : Error) × (close ≡ Ready (Err (Io error))) × (error_kind error ≡ Unsupported)
+IsUnclosed (Ready (Ok _)) close =
+    (error : Error) × (close ≡ Ready (Err (Io error))) × (error_kind error ≡ Unsupported)

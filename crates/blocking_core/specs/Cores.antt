@@ -5,8 +5,8 @@ use Rattle.blocking_core.specs.declared.job.Action.TheVariants.{Call, Finish, De
 use Rattle.blocking_core.specs.declared.job.Answer.{Answer}
 use Rattle.blocking_core.specs.declared.job.Answer.TheVariants.{Returned, Put, Delivered}
 
--- A call: it is made, its answer is put, a waker that was taken is called, and the job is over. An answer to another
--- action changes nothing.
+-- A call: it is made, its answer is put, a waker that was taken is called, and the job is over. An
+-- answer to another action changes nothing.
 abbrev pub call_after : Action → Answer → Action
 call_after Call Returned = Finish
 call_after Finish (Put true) = Deliver

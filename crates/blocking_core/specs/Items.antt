@@ -2,7 +2,8 @@
 use Rattle.std.specs.Prelude.{Bool, true, false}
 use Rattle.blocking_core.specs.Machines.{Machine, machine, wake_first}
 use Rattle.blocking_core.specs.declared.job.item.ItemAction.{ItemAction}
-use Rattle.blocking_core.specs.declared.job.item.ItemAction.TheVariants.{Next, Send, Close, Finish, Deliver, Done}
+use Rattle.blocking_core.specs.declared.job.item.ItemAction.TheVariants.{Next, Send, Close, Finish}
+use Rattle.blocking_core.specs.declared.job.item.ItemAction.TheVariants.{Deliver, Done}
 use Rattle.blocking_core.specs.declared.job.item.ItemAnswer.{ItemAnswer}
 use Rattle.blocking_core.specs.declared.job.item.ItemAnswer.TheVariants as by
 
@@ -14,9 +15,9 @@ new_item = machine Next false
 abbrev pub item_next : Machine ItemAction → ItemAction
 item_next core = wake_first core.is_waking Deliver core.next
 
--- What follows an answer to this action. Each item that the iterator gave is sent before the next is asked for, at a full pipe
--- the same one once more; the iterator's end and a closed end lead to the close of the job's own. An answer to another action
--- changes nothing.
+-- What follows an answer to this action. Each item that the iterator gave is sent before the next
+-- is asked for, at a full pipe the same one once more; the iterator's end and a closed end lead to
+-- the close of the job's own. An answer to another action changes nothing.
 abbrev pub item_by : ItemAction → ItemAnswer → Machine ItemAction
 item_by Next by.Gave = machine Send false
 item_by Next by.Ended = machine Close false

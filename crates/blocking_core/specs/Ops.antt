@@ -2,7 +2,8 @@
 use Rattle.std.specs.Prelude.{Bool, true, false}
 use Rattle.blocking_core.specs.Machines.{Machine, machine, wake_first}
 use Rattle.blocking_core.specs.declared.job.op.OpAction.{OpAction}
-use Rattle.blocking_core.specs.declared.job.op.OpAction.TheVariants.{Call, PutResult, Finish, Deliver, Done}
+use Rattle.blocking_core.specs.declared.job.op.OpAction.TheVariants.{Call, PutResult, Finish}
+use Rattle.blocking_core.specs.declared.job.op.OpAction.TheVariants.{Deliver, Done}
 use Rattle.blocking_core.specs.declared.job.op.OpAnswer.{OpAnswer}
 use Rattle.blocking_core.specs.declared.job.op.OpAnswer.TheVariants as by
 
@@ -14,8 +15,8 @@ new_operation = machine Call false
 abbrev pub operation_next : Machine OpAction → OpAction
 operation_next core = wake_first core.is_waking Deliver core.next
 
--- What follows an answer to this action. An operation is called once; its result is in its place before the handle comes back.
--- An answer to another action changes nothing.
+-- What follows an answer to this action. An operation is called once; its result is in its place
+-- before the handle comes back. An answer to another action changes nothing.
 abbrev pub operation_by : OpAction → OpAnswer → Machine OpAction
 operation_by Call by.Returned = machine PutResult false
 operation_by PutResult (by.ResultPut woke) = machine Finish woke

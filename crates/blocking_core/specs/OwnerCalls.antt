@@ -1,26 +1,37 @@
 -- What a poll of an owner does, by its call and where the handle is.
-use Rattle.std.specs.Prelude.{ℕ, zero, suc, nat_le, if◌then◌else◌, Bool, true, false, Option, Some, None}
+use Rattle.std.specs.Prelude.{ℕ, zero, suc, nat_le, if◌then◌else◌, Bool, true, false, Option, Some}
+use Rattle.std.specs.Prelude.{None}
 use Rattle.blocking_core.specs.Machines.{wake_first}
 use Rattle.blocking_core.specs.Positions.{same_position}
 use Rattle.blocking_core.specs.declared.io.Fault.{Fault}
 use Rattle.blocking_core.specs.declared.io.Fault.TheVariants as fault
 use Rattle.blocking_core.specs.declared.unblock.PollCall.{PollCall}
-use Rattle.blocking_core.specs.declared.unblock.PollCall.TheVariants.{Read, Write, Flush, Close as CloseCall, Seek, Next, Operate, GetMut, IntoInner}
+use Rattle.blocking_core.specs.declared.unblock.PollCall.TheVariants.{Read, Write, Flush}
+use Rattle.blocking_core.specs.declared.unblock.PollCall.TheVariants.{Close as CloseCall, Seek}
+use Rattle.blocking_core.specs.declared.unblock.PollCall.TheVariants.{Next, Operate, GetMut}
+use Rattle.blocking_core.specs.declared.unblock.PollCall.TheVariants.{IntoInner}
 use Rattle.blocking_core.specs.declared.unblock.OwnerEnd.{OwnerEnd}
 use Rattle.blocking_core.specs.declared.unblock.OwnerEnd.TheVariants.{Open, Shut}
 use Rattle.blocking_core.specs.declared.unblock.SessionKind.{SessionKind}
-use Rattle.blocking_core.specs.declared.unblock.SessionKind.TheVariants.{Reading, Writing, Streaming, Seeking, Operating}
+use Rattle.blocking_core.specs.declared.unblock.SessionKind.TheVariants.{Reading, Writing}
+use Rattle.blocking_core.specs.declared.unblock.SessionKind.TheVariants.{Streaming, Seeking}
+use Rattle.blocking_core.specs.declared.unblock.SessionKind.TheVariants.{Operating}
 use Rattle.blocking_core.specs.declared.unblock.State.{State}
 use Rattle.blocking_core.specs.declared.unblock.State.TheVariants.{Idle, Lent, Closed}
-use Rattle.blocking_core.specs.declared.unblock.Reply.TheVariants.{Count, Position, End, Item, Result, Handle, Failed, NotBegun, Done, Closed as NoHandle}
+use Rattle.blocking_core.specs.declared.unblock.Reply.TheVariants.{Count, Position, End, Item}
+use Rattle.blocking_core.specs.declared.unblock.Reply.TheVariants.{Result, Handle, Failed, NotBegun}
+use Rattle.blocking_core.specs.declared.unblock.Reply.TheVariants.{Done, Closed as NoHandle}
 use Rattle.blocking_core.specs.declared.unblock.OwnerAction.{OwnerAction}
-use Rattle.blocking_core.specs.declared.unblock.OwnerAction.TheVariants.{Begin, Close, Drain, Fill, Receive, PollSlot, PollResult, DropHandle, Deliver, Reply, Pending}
+use Rattle.blocking_core.specs.declared.unblock.OwnerAction.TheVariants.{Begin, Close, Drain, Fill}
+use Rattle.blocking_core.specs.declared.unblock.OwnerAction.TheVariants.{Receive, PollSlot}
+use Rattle.blocking_core.specs.declared.unblock.OwnerAction.TheVariants.{PollResult, DropHandle}
+use Rattle.blocking_core.specs.declared.unblock.OwnerAction.TheVariants.{Deliver, Reply, Pending}
 use Rattle.blocking_core.specs.declared.unblock.OwnerAnswer.{OwnerAnswer}
 use Rattle.blocking_core.specs.declared.unblock.OwnerAnswer.TheVariants as by
 use Rattle.blocking_pool.specs.declared.pool.answer.Refusal.{Refusal}
 
--- A poll: its call, where the handle is, what it does next, whether it has to spend a note before that, and whether it saw the
--- end of the pipe.
+-- A poll: its call, where the handle is, what it does next, whether it has to spend a note before
+-- that, and whether it saw the end of the pipe.
 pub record OwnerMachine (E : Type 0) : Type 0 where
   pub call : PollCall
   pub state : State
@@ -39,8 +50,8 @@ kind_begun (Seek to) = Some (Seeking to)
 kind_begun (Operate begun) = Some Operating
 kind_begun call = None
 
--- Whether a call goes on in a session of this kind, and doesn't stop it. A seek meets whatever seek is under way; an operation only the
--- session that it began itself.
+-- Whether a call goes on in a session of this kind, and doesn't stop it. A seek meets whatever seek
+-- is under way; an operation only the session that it began itself.
 abbrev pub goes_on_in : SessionKind → PollCall → Bool
 goes_on_in Reading (Read most) = true
 goes_on_in Writing (Write most) = true
@@ -102,7 +113,8 @@ module _ {E : Type 0} where
   in_own (Operate begun) = PollResult
   in_own call = PollSlot
 
-  -- how a call stops a session: it closes the owner's end where there is a pipe and that is open, and then looks for the handle
+  -- how a call stops a session: it closes the owner's end where there is a pipe and that is open,
+  -- and then looks for the handle
   abbrev pub stop : Bool → OwnerEnd → OwnerAction E
   stop true Open = Close
   stop piped end = PollSlot
@@ -124,8 +136,9 @@ module _ {E : Type 0} where
   at_state call (Lent kind end) = in_session (goes_on_in kind call) call kind end
   at_state call Closed = at_closed call
 
-  -- The table: what a call does where the handle is. A read and a write of nothing do nothing; from a session that isn't its own a call
-  -- stops that. A flush and a close have no session of their own, and the calls for the handle neither.
+  -- The table: what a call does where the handle is. A read and a write of nothing do nothing; from
+  -- a session that isn't its own a call stops that. A flush and a close have no session of their
+  -- own, and the calls for the handle neither.
   abbrev pub table : PollCall → State → OwnerAction E
   table (Read zero) state = Reply (Count 0)
   table (Write zero) state = Reply (Count 0)
@@ -135,7 +148,13 @@ module _ {E : Type 0} where
 
   -- a poll that begins
   abbrev pub new_poll : PollCall → State → OwnerMachine E
-  new_poll call state = record { call = call; state = state; next = table call state; is_waking = false; is_at_end = false }
+  new_poll call state = record {
+    call = call;
+    state = state;
+    next = table call state;
+    is_waking = false;
+    is_at_end = false;
+  }
 
   -- the next action
   abbrev pub owner_next : OwnerMachine E → OwnerAction E
@@ -143,13 +162,15 @@ module _ {E : Type 0} where
 
   -- ---- answers
 
-  -- how a call tells that no session could begin: a stream and an operation have a word of their own for it
+  -- how a call tells that no session could begin: a stream and an operation have a word of their
+  -- own for it
   abbrev pub refusal : PollCall → Refusal → OwnerAction E
   refusal Next why = Reply (NotBegun why)
   refusal (Operate begun) why = Reply (NotBegun why)
   refusal call why = Reply (Failed (fault.Refused why))
 
-  -- what a call does that saw the end of the pipe, once the handle is back; another goes on as from an idle handle
+  -- what a call does that saw the end of the pipe, once the handle is back; another goes on as from
+  -- an idle handle
   abbrev pub at_end : PollCall → OwnerAction E
   at_end (Read most) = Reply (Count 0)
   at_end Next = Reply End
@@ -160,21 +181,25 @@ module _ {E : Type 0} where
   after_end call true = at_end call
   after_end call false = table call Idle
 
-  -- What a call does once the handle is back: it tells the job's fault, if it tells faults; else the end, where it saw that; else it goes
-  -- on as it does from an idle handle.
+  -- What a call does once the handle is back: it tells the job's fault, if it tells faults; else
+  -- the end, where it saw that; else it goes on as it does from an idle handle.
   abbrev pub after_back : PollCall → Bool → Option (Fault E) → OwnerAction E
   after_back call ended None = after_end call ended
-  after_back call ended (Some why) = if tells_faults call then Reply (Failed why) else after_end call ended
+  after_back call ended (Some why) =
+      if tells_faults call then Reply (Failed why) else after_end call ended
 
-  -- what a call does once the handle is back from a seek that went well: it tells where the handle is now, if it asked for that position
+  -- what a call does once the handle is back from a seek that went well: it tells where the handle
+  -- is now, if it asked for that position
   abbrev pub after_seek : State → PollCall → ℕ → OwnerAction E
-  after_seek state call place = if sought_by state call then Reply (Position place) else table call Idle
+  after_seek state call place =
+      if sought_by state call then Reply (Position place) else table call Idle
 
   -- some bytes came out or went in, and no more than were asked for or offered
   abbrev pub after_got : ℕ → ℕ → Bool → OwnerMachine E → OwnerMachine E
   after_got most zero noted poll = poll
   after_got most (suc count) noted poll =
-      if nat_le (suc count) most then record poll { next = Reply (Count (suc count)); is_waking = noted } else poll
+      if nat_le (suc count) most
+      then record poll { next = Reply (Count (suc count)); is_waking = noted } else poll
 
   -- a session began, or was refused
   abbrev pub after_begin : OwnerAnswer E → OwnerMachine E → OwnerMachine E
@@ -184,7 +209,8 @@ module _ {E : Type 0} where
 
   -- the owner's end was closed
   abbrev pub after_close : OwnerAnswer E → OwnerMachine E → OwnerMachine E
-  after_close (by.Closed noted) poll = record poll { state = shut poll.state; next = PollSlot; is_waking = noted }
+  after_close (by.Closed noted) poll =
+      record poll { state = shut poll.state; next = PollSlot; is_waking = noted }
   after_close answer poll = poll
 
   -- bytes came out of the pipe, or it is at its end, or the owner waits
@@ -216,8 +242,10 @@ module _ {E : Type 0} where
   -- the handle came back, from a seek that went well with its position; or the owner waits
   abbrev pub after_slot : OwnerAnswer E → OwnerMachine E → OwnerMachine E
   after_slot (by.WaitsInSlot seat) poll = record poll { next = Pending }
-  after_slot (by.Back why) poll = record poll { state = Idle; next = after_back poll.call poll.is_at_end why }
-  after_slot (by.Sought place) poll = record poll { state = Idle; next = after_seek poll.state poll.call place }
+  after_slot (by.Back why) poll =
+      record poll { state = Idle; next = after_back poll.call poll.is_at_end why }
+  after_slot (by.Sought place) poll =
+      record poll { state = Idle; next = after_seek poll.state poll.call place }
   after_slot answer poll = poll
 
   -- the result of the operation came, or the owner waits

@@ -1,11 +1,13 @@
 -- What contracts see of a pipe.
-use Rattle.std.specs.Prelude.{ℕ, ◌+◌, ◌-◌, ◌<◌, ◌≤◌, Bool, true, List, [], length, Option, None, refl}
+use Rattle.std.specs.Prelude.{ℕ, ◌+◌, ◌-◌, ◌<◌, ◌≤◌, Bool, true, List, [], length, Option, None}
+use Rattle.std.specs.Prelude.{refl}
 use Rattle.std.specs.Coded.{Coded, code_by, coded×, coded_ℕ, coded_bool, coded_list, coded_option}
 use Rattle.blocking_core.specs.Stores.{Stored}
 use Rattle.blocking_pool.specs.Jobs.{JobNumber}
 
--- A pipe: what is inside, first the item that goes first; how many items it holds at most beside those that it lent; how many it lent;
--- which ends are open; and who is seated: the owner by its waker, the job by its number.
+-- A pipe: what is inside, first the item that goes first; how many items it holds at most beside
+-- those that it lent; how many it lent; which ends are open; and who is seated: the owner by its
+-- waker, the job by its number.
 pub record Pipe (X W : Type 0) : Type 0 where
   pub items : List X
   pub capacity : ℕ
@@ -16,14 +18,25 @@ pub record Pipe (X W : Type 0) : Type 0 where
   pub job_seat : Option JobNumber
 
 abbrev pub job_number_code : Coded JobNumber
-job_number_code = code_by (ℕ × ℕ) (coded× coded_ℕ coded_ℕ) (λ no. (no.place, no.serial)) (λ parts. record { place = parts.0; serial = parts.1 }) (λ _. refl)
+job_number_code = code_by (ℕ × ℕ) (coded× coded_ℕ coded_ℕ) (λ no. (no.place, no.serial))
+    (λ parts. record { place = parts.0; serial = parts.1 }) (λ _. refl)
 
 abbrev pub pipe_code : {X W : Type 0} → Coded X → Coded W → Coded (Pipe X W)
 pipe_code {X} {W} item waker =
     code_by (List X × (ℕ × (ℕ × (Bool × (Bool × (Option W × Option JobNumber))))))
     (coded× (coded_list item)
-    (coded× coded_ℕ (coded× coded_ℕ (coded× coded_bool (coded× coded_bool (coded× (coded_option waker) (coded_option job_number_code)))))))
-    (λ pipe. (pipe.items, (pipe.capacity, (pipe.lent, (pipe.is_owner_open, (pipe.is_job_open, (pipe.owner_seat, pipe.job_seat)))))))
+    (coded× coded_ℕ (coded× coded_ℕ (coded× coded_bool
+    (coded× coded_bool (coded× (coded_option waker) (coded_option job_number_code)))))))
+    (λ pipe. (
+      pipe.items,
+      (
+        pipe.capacity,
+        (
+          pipe.lent,
+          (pipe.is_owner_open, (pipe.is_job_open, (pipe.owner_seat, pipe.job_seat))),
+        ),
+      ),
+    ))
     (λ parts. record {
       items = parts.0;
       capacity = parts.1.0;

@@ -2,7 +2,8 @@
 use Rattle.std.specs.Prelude.{Bool, true, false}
 use Rattle.blocking_core.specs.Machines.{Machine, machine, wake_first}
 use Rattle.blocking_core.specs.declared.job.seek.SeekAction.{SeekAction}
-use Rattle.blocking_core.specs.declared.job.seek.SeekAction.TheVariants.{Seek, Finish, Deliver, Done}
+use Rattle.blocking_core.specs.declared.job.seek.SeekAction.TheVariants.{Seek, Finish, Deliver}
+use Rattle.blocking_core.specs.declared.job.seek.SeekAction.TheVariants.{Done}
 use Rattle.blocking_core.specs.declared.job.seek.SeekAnswer.{SeekAnswer}
 use Rattle.blocking_core.specs.declared.job.seek.SeekAnswer.TheVariants as by
 
@@ -14,8 +15,8 @@ new_seek = machine Seek false
 abbrev pub seek_next : Machine SeekAction → SeekAction
 seek_next core = wake_first core.is_waking Deliver core.next
 
--- What follows an answer to this action. A seek is made once, and what came of it, a position or a fault, goes into the slot.
--- An answer to another action changes nothing.
+-- What follows an answer to this action. A seek is made once, and what came of it, a position or a
+-- fault, goes into the slot. An answer to another action changes nothing.
 abbrev pub seek_by : SeekAction → SeekAnswer → Machine SeekAction
 seek_by Seek by.Sought = machine Finish false
 seek_by Seek by.Failed = machine Finish false

@@ -26,11 +26,14 @@ module _ {T : Type 0} where
   IsPending _ = ⊥
 
 module _ {T W : Type 0} where
-  -- The value leaves the slot; or no value will come; or the waker is seated. What isn't seated comes back.
+  -- The value leaves the slot; or no value will come; or the waker is seated. What isn't seated
+  -- comes back.
   abbrev pub PollsTo : Slot T W → W → Slotted T → Option W → Slot T W → Type 0
-  PollsTo old waker (Value value) spare new = (old.content ≡ Full value) × (new ≡ record old { content = Empty }) × (spare ≡ Some waker)
+  PollsTo old waker (Value value) spare new =
+      (old.content ≡ Full value) × (new ≡ record old { content = Empty }) × (spare ≡ Some waker)
   PollsTo old waker (Gone over) spare new = IsOver old.content × (new ≡ old) × (spare ≡ Some waker)
-  PollsTo old waker (Waits seat) spare new = IsPending old.content × (new ≡ record old { seat = Some waker }) × (spare ≡ old.seat)
+  PollsTo old waker (Waits seat) spare new =
+      IsPending old.content × (new ≡ record old { seat = Some waker }) × (spare ≡ old.seat)
 
   abbrev pub Polls : Slot T W → W → Polled T W → Slot T W → Type 0
   Polls old waker polled new = PollsTo old waker polled.answer polled.spare new
@@ -38,4 +41,5 @@ module _ {T W : Type 0} where
   -- The value leaves the slot; or there is none, and the seat is emptied.
   abbrev pub Looks : Slot T W → Looked T W → Slot T W → Type 0
   Looks old (Found value) new = (old.content ≡ Full value) × (new ≡ record old { content = Empty })
-  Looks old (Seat waker) new = HasNone old.content × (waker ≡ old.seat) × (new ≡ record old { seat = None })
+  Looks old (Seat waker) new =
+      HasNone old.content × (waker ≡ old.seat) × (new ≡ record old { seat = None })

@@ -7,8 +7,8 @@ use Rattle.blocking_core.specs.declared.task.Content.{Content as Kept}
 use Rattle.blocking_core.specs.declared.task.Content.TheVariants as kept
 use Rattle.blocking_core.specs.declared.task.Put.{Put}
 
--- What stands in a slot: nothing yet, a value, that the job was dropped, or that the owner is gone (and whether the job
--- is over).
+-- What stands in a slot: nothing yet, a value, that the job was dropped, or that the owner is gone
+-- (and whether the job is over).
 pub data Content (T : Type 0) : Type 0 where
   Empty : Content T
   Full : T → Content T
@@ -47,12 +47,14 @@ module _ {T : Type 0} where
 
   abbrev pub content_code : Coded T → Coded (Content T)
   content_code code =
-      code_by (Unit {0} ⊎ (T ⊎ (Unit {0} ⊎ Bool))) (coded⊎ coded_unit (coded⊎ code (coded⊎ coded_unit coded_bool))) cases_of from_cases from-cases_of
+      code_by (Unit {0} ⊎ (T ⊎ (Unit {0} ⊎ Bool))) (coded⊎ coded_unit
+      (coded⊎ code (coded⊎ coded_unit coded_bool))) cases_of from_cases from-cases_of
 
 abbrev pub slot_code : {T W : Type 0} → Coded T → Coded W → Coded (Slot T W)
 slot_code {T} {W} value waker =
     code_by (Content T × Option W) (coded× (content_code value) (coded_option waker))
-    (λ slot. (slot.content, slot.seat)) (λ parts. record { content = parts.0; seat = parts.1 }) (λ _. refl)
+    (λ slot. (slot.content, slot.seat)) (λ parts. record { content = parts.0; seat = parts.1 })
+    (λ _. refl)
 
 module _ {T : Type 0} where
   -- what stands in a slot after its owner left: the job of a full or given up one is over
@@ -72,7 +74,8 @@ module _ {T W : Type 0} where
   abbrev pub empty_slot : Slot T W
   empty_slot = record { content = Empty; seat = None }
 
-  -- the slot after a value was put: it takes one value, and takes note of the end of an abandoned job
+  -- the slot after a value was put: it takes one value, and takes note of the end of an abandoned
+  -- job
   abbrev pub slot_after : Content T → Option W → T → Slot T W
   slot_after Empty seat value = record { content = Full value; seat = None }
   slot_after (Abandoned false) seat value = record { content = Abandoned true; seat = None }
@@ -90,7 +93,8 @@ module _ {T W : Type 0} where
   abbrev pub put_in : Slot T W → T → Put T W
   put_in slot value = answer_of slot.content slot.seat value
 
-  -- the slot after its job was dropped: no value will come any more, and an abandoned one takes note of it
+  -- the slot after its job was dropped: no value will come any more, and an abandoned one takes
+  -- note of it
   abbrev pub slot_without_job : Content T → Option W → Slot T W
   slot_without_job Empty seat = record { content = GivenUp; seat = None }
   slot_without_job (Abandoned false) seat = record { content = Abandoned true; seat = None }
@@ -99,7 +103,8 @@ module _ {T W : Type 0} where
   abbrev pub after_give_up : Slot T W → Slot T W
   after_give_up slot = slot_without_job slot.content slot.seat
 
-  -- the waker that leaves its seat when the job was dropped: that of an owner to whom nothing came yet
+  -- the waker that leaves its seat when the job was dropped: that of an owner to whom nothing came
+  -- yet
   abbrev pub waker_out_of : Content T → Option W → Option W
   waker_out_of Empty seat = seat
   waker_out_of (Abandoned false) seat = seat

@@ -1,14 +1,18 @@
 -- What a writing job does after an answer.
-use Rattle.std.specs.Prelude.{zero, suc, nat_le, if◌then◌else◌, Bool, true, false, Option, Some, None}
+use Rattle.std.specs.Prelude.{zero, suc, nat_le, if◌then◌else◌, Bool, true, false, Option, Some}
+use Rattle.std.specs.Prelude.{None}
 use Rattle.blocking_core.specs.Machines.{Machine, machine, wake_first}
 use Rattle.blocking_core.specs.declared.io.JobFault.{JobFault}
 use Rattle.blocking_core.specs.declared.io.JobFault.TheVariants.{Io, WriteZero}
 use Rattle.blocking_core.specs.declared.job.write.WriteAction.{WriteAction}
-use Rattle.blocking_core.specs.declared.job.write.WriteAction.TheVariants.{Peek, Write, Consume, Flush, Close, Finish, Deliver, Done}
+use Rattle.blocking_core.specs.declared.job.write.WriteAction.TheVariants.{Peek, Write, Consume}
+use Rattle.blocking_core.specs.declared.job.write.WriteAction.TheVariants.{Flush, Close, Finish}
+use Rattle.blocking_core.specs.declared.job.write.WriteAction.TheVariants.{Deliver, Done}
 use Rattle.blocking_core.specs.declared.job.write.WriteAnswer.{WriteAnswer}
 use Rattle.blocking_core.specs.declared.job.write.WriteAnswer.TheVariants as by
 
--- A writing job's machine: what it does next, whether it has to call a waker before that, and what its writer did wrong first.
+-- A writing job's machine: what it does next, whether it has to call a waker before that, and what
+-- its writer did wrong first.
 pub record WriteMachine (E : Type 0) : Type 0 where
   pub next : WriteAction
   pub is_waking : Bool
@@ -23,13 +27,16 @@ module _ {E : Type 0} where
   abbrev pub write_next : WriteMachine E → WriteAction
   write_next core = wake_first core.is_waking Deliver core.next
 
-  -- What follows an answer to this action. Bytes leave the pipe once the writer took them. A write that took none or failed, and a pipe
-  -- that is drained, lead to the flush, and that leads to the close in any case. An answer to another action changes nothing.
+  -- What follows an answer to this action. Bytes leave the pipe once the writer took them. A write
+  -- that took none or failed, and a pipe that is drained, lead to the flush, and that leads to the
+  -- close in any case. An answer to another action changes nothing.
   abbrev pub write_by : WriteAction → WriteAnswer E → Machine WriteAction
-  write_by Peek (by.Peeked (suc count)) = machine (if nat_le (suc count) 65536 then Write (suc count) else Peek) false
+  write_by Peek (by.Peeked (suc count)) =
+      machine (if nat_le (suc count) 65536 then Write (suc count) else Peek) false
   write_by Peek by.Drained = machine Flush false
   write_by (Write most) (by.Took zero) = machine Flush false
-  write_by (Write most) (by.Took (suc count)) = machine (if nat_le (suc count) most then Consume (suc count) else Write most) false
+  write_by (Write most) (by.Took (suc count)) =
+      machine (if nat_le (suc count) most then Consume (suc count) else Write most) false
   write_by (Write most) (by.Failed error) = machine Flush false
   write_by (Consume count) (by.Consumed woke) = machine Peek woke
   write_by Flush by.Flushed = machine Close false
@@ -38,7 +45,8 @@ module _ {E : Type 0} where
   write_by Finish (by.Finished woke) = machine Done woke
   write_by action answer = machine action false
 
-  -- what an answer to this action tells that the writer did wrong: a write took nothing, or it or a flush failed
+  -- what an answer to this action tells that the writer did wrong: a write took nothing, or it or a
+  -- flush failed
   abbrev pub fault_in : WriteAction → WriteAnswer E → Option (JobFault E)
   fault_in (Write most) (by.Took zero) = Some WriteZero
   fault_in (Write most) (by.Failed error) = Some (Io error)
@@ -64,4 +72,5 @@ module _ {E : Type 0} where
 
   -- the machine after an answer
   abbrev pub write_after : WriteMachine E → WriteAnswer E → WriteMachine E
-  write_after core answer = noting (write_in core.is_waking core.next answer) (first_fault core.fault (fault_in (write_next core) answer))
+  write_after core answer = noting (write_in core.is_waking core.next answer)
+      (first_fault core.fault (fault_in (write_next core) answer))

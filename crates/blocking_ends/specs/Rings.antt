@@ -15,7 +15,8 @@ use Rattle.blocking_ends.specs.declared.ring.shared.Again.TheVariants as again
 use Rattle.blocking_ends.specs.declared.ring.shared.Asked.{Asked}
 use Rattle.blocking_ends.specs.declared.ring.shared.Asked.TheVariants as asked
 
--- the seats of the owner and of the job, and after how many items the job closed its end, once it did
+-- the seats of the owner and of the job, and after how many items the job closed its end, once it
+-- did
 pub record Kept (W : Type 0) : Type 0 where
   pub owner : Option W
   pub job : Option JobNumber
@@ -23,8 +24,10 @@ pub record Kept (W : Type 0) : Type 0 where
 
 abbrev pub kept_code : {W : Type 0} → Coded W → Coded (Kept W)
 kept_code {W} waker =
-    code_by (Option W × (Option JobNumber × Option ℕ)) (coded× (coded_option waker) (coded× (coded_option job_number_code) (coded_option coded_ℕ)))
-    (λ seen. (seen.owner, (seen.job, seen.end))) (λ parts. record { owner = parts.0; job = parts.1.0; end = parts.1.1 }) (λ _. refl)
+    code_by (Option W × (Option JobNumber × Option ℕ))
+    (coded× (coded_option waker) (coded× (coded_option job_number_code) (coded_option coded_ℕ)))
+    (λ seen. (seen.owner, (seen.job, seen.end)))
+    (λ parts. record { owner = parts.0; job = parts.1.0; end = parts.1.1 }) (λ _. refl)
 
 -- what holds where the end was told and all was received
 abbrev pub IfEnd : Told → Type 0 → Type 0

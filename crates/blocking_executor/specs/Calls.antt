@@ -16,7 +16,9 @@ pub record CallSeen (F : Type 0) : Type 0 where
 
 abbrev pub call_code : {F : Type 0} → Coded F → Coded (CallSeen F)
 call_code {F} code =
-    code_by (Action × Option F) (coded× the_row.coded (coded_option code)) (λ seen. (seen.next, seen.call)) (λ parts. record { next = parts.0; call = parts.1 }) (λ _. refl)
+    code_by (Action × Option F) (coded× the_row.coded (coded_option code))
+    (λ seen. (seen.next, seen.call)) (λ parts. record { next = parts.0; call = parts.1 })
+    (λ _. refl)
 
 -- the core got one answer, to the action that was next; where nothing was, it got none
 abbrev pub IsAnswered : Action → Action → Type 0
@@ -25,7 +27,8 @@ IsAnswered Finish new = (woke : Bool) × (new ≡ call_after Finish (Put woke))
 IsAnswered Deliver new = new ≡ call_after Deliver Delivered
 IsAnswered Done new = new ≡ Done
 
--- what a step tells its worker: a job that has nothing more to do is done, and else it goes on; it never waits
+-- what a step tells its worker: a job that has nothing more to do is done, and else it goes on; it
+-- never waits
 abbrev pub told_by : Action → JobStep
 told_by Done = step.Done
 told_by next = step.Again

@@ -1,4 +1,5 @@
--- What is asked of a pool of files: each call by the texts of its paths, and by the file that it is about.
+-- What is asked of a pool of files: each call by the texts of its paths, and by the file that it is
+-- about.
 use Rattle.std.specs.Prelude.{◌≡◌, ℕ, List, Option, IfSome, String, string_bytes, Vec, vec_items}
 use Rattle.std.specs.Arc.{arc_value}
 use Rattle.std.specs.declared.fs.File.{File}

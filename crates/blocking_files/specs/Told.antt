@@ -5,8 +5,10 @@ use Rattle.futures.specs.declared.task.Poll.{Poll}
 use Rattle.futures.specs.declared.task.Poll.TheVariants.{Ready, Pending}
 use Rattle.blocking_core.specs.declared.io.Fault.{Fault}
 
--- the poll for an entry that this poll of its owner came to: the same entry, error or end, and a refusal as an error
-abbrev pub IsFlat : {X E W : Type 0} → Poll (Option (Result (Result X E) W)) → Poll (Option (Result X E)) → Type 0
+-- the poll for an entry that this poll of its owner came to: the same entry, error or end, and a
+-- refusal as an error
+abbrev pub IsFlat : {X E W : Type 0} → Poll (Option (Result (Result X E) W))
+    → Poll (Option (Result X E)) → Type 0
 IsFlat Pending Pending = Unit {0}
 IsFlat (Ready None) (Ready None) = Unit {0}
 IsFlat (Ready (Some (Ok entry))) (Ready (Some told)) = told ≡ entry

@@ -1,4 +1,5 @@
--- What the trait of futures asks of a poll, where a future promises nothing of its output and waits for no source of its own.
+-- What the trait of futures asks of a poll, where a future promises nothing of its output and waits
+-- for no source of its own.
 use Rattle.std.specs.Prelude.{⊤}
 use Rattle.futures.specs.Poll.{IfReady, OnPending}
 use Rattle.futures.specs.Task.{Covers, IsArmed}
@@ -18,6 +19,7 @@ pub promises_no_less : {A : Type 0} (r : Poll A) → OnPending r ((x : A) → �
 promises_no_less (Ready _) = tt
 promises_no_less Pending = λ _ _. tt
 
-pub covers_none : {A : Type 0} (r : Poll A) (cx : Context) → OnPending r (IsArmed cx) → OnPending r (Covers cx (λ _. ⊥))
+pub covers_none : {A : Type 0} (r : Poll A) (cx : Context) → OnPending r (IsArmed cx)
+    → OnPending r (Covers cx (λ _. ⊥))
 covers_none (Ready _) _ _ = tt
 covers_none Pending _ armed = (armed, λ _ e. absurd e)

@@ -25,5 +25,7 @@ behind words (Some text) = Some (words ++ text)
 
 -- which side failed, and what its fault says, if that is stated
 abbrev pub copy_fault_text : (Error → Option (List ℕ)) → CopyFault → Option (List ℕ)
-copy_fault_text error_text (Reading why) = behind (codes "reading failed: ") (fault_text error_text why)
-copy_fault_text error_text (Writing why) = behind (codes "writing failed: ") (fault_text error_text why)
+copy_fault_text error_text (Reading why) =
+    behind (codes "reading failed: ") (fault_text error_text why)
+copy_fault_text error_text (Writing why) =
+    behind (codes "writing failed: ") (fault_text error_text why)

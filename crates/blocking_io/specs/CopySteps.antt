@@ -16,7 +16,8 @@ module _ {E : Type 0} where
   is_over (Done end) = true
   is_over action = false
 
-  -- This is an answer to that action: a reader gives no more than it was asked for, and a writer takes no more than it was offered.
+  -- This is an answer to that action: a reader gives no more than it was asked for, and a writer
+  -- takes no more than it was offered.
   abbrev pub AnswersTo : CopyAction E → CopyAnswer E → Type 0
   AnswersTo (Read most) by.Pending = Unit {0}
   AnswersTo (Read most) (by.Gave count) = count ≤ most
@@ -48,8 +49,9 @@ module _ {E : Type 0} where
   abbrev pub IsWhole : CopyMachine E → Type 0
   IsWhole core = IsWholeAt core.is_short core.next
 
-  -- A machine stands so over a piece of so many bytes: what it writes next stands in the piece; while it reads and writes no write took
-  -- nothing; and a copy that ended well did so with the count, and no write took nothing.
+  -- A machine stands so over a piece of so many bytes: what it writes next stands in the piece;
+  -- while it reads and writes no write took nothing; and a copy that ended well did so with the
+  -- count, and no write took nothing.
   abbrev pub StandsAt : CopyAction E → ℕ → Bool → ℕ → Type 0
   StandsAt (Read most) copied short length = (most ≡ length) × (short ≡ false)
   StandsAt (Write from to) copied short length = ((from < to) × (to ≤ length)) × (short ≡ false)
@@ -59,16 +61,22 @@ module _ {E : Type 0} where
   StandsAt (Done (Writing why)) copied short length = Unit {0}
 
   abbrev pub Stands : CopyMachine E → ℕ → Type 0
-  Stands core length = StandsAt core.next core.copied core.is_short length × ((core.piece ≡ length) × (0 < length))
+  Stands core length =
+      StandsAt core.next core.copied core.is_short length × ((core.piece ≡ length) × (0 < length))
 
   pub stands_prop : (core : CopyMachine E) (length : ℕ) → IsProp (Stands core length)
   stands_prop core length =
-      ×_prop (at_prop core.next core.copied core.is_short length) (×_prop (ℕ_set core.piece length) (le_prop {n = suc 0} {m = length}))
+      ×_prop (at_prop core.next core.copied core.is_short length)
+      (×_prop (ℕ_set core.piece length) (le_prop {n = suc 0} {m = length}))
     where
-      at_prop : (action : CopyAction E) (copied : ℕ) (short : Bool) (length : ℕ) → IsProp (StandsAt action copied short length)
+      at_prop : (action : CopyAction E) (copied : ℕ) (short : Bool) (length : ℕ)
+          → IsProp (StandsAt action copied short length)
       at_prop (Read most) copied short length = ×_prop (ℕ_set most length) (Bool-set short false)
-      at_prop (Write from to) copied short length = ×_prop (×_prop (le_prop {n = suc from} {m = to}) (le_prop {n = to} {m = length})) (Bool-set short false)
+      at_prop (Write from to) copied short length =
+          ×_prop (×_prop (le_prop {n = suc from} {m = to}) (le_prop {n = to} {m = length}))
+          (Bool-set short false)
       at_prop Flush copied short length = Unit-prop
-      at_prop (Done (Copied count)) copied short length = ×_prop (ℕ_set count copied) (Bool-set short false)
+      at_prop (Done (Copied count)) copied short length =
+          ×_prop (ℕ_set count copied) (Bool-set short false)
       at_prop (Done (Reading why)) copied short length = Unit-prop
       at_prop (Done (Writing why)) copied short length = Unit-prop

@@ -1,11 +1,13 @@
 -- How many serials below one pass a test.
-use Rattle.std.proofs.Common.{◌≡◌, ◌≢◌, ℕ, zero, suc, ◌+◌, ◌<◌, ◌≤◌, Bool, true, false, not, eqb, ◌&&◌, refl, ap, ◌∙◌, inl, inr, arith}
+use Rattle.std.proofs.Common.{◌≡◌, ◌≢◌, ℕ, zero, suc, ◌+◌, ◌<◌, ◌≤◌, Bool, true, false, not, eqb}
+use Rattle.std.proofs.Common.{◌&&◌, refl, ap, ◌∙◌, inl, inr, arith}
 use Rattle.std.proofs.lemmas.Bool.{cases_eq, eq-eqb, ne_eqb}
 use Rattle.std.proofs.Math.Bool.{and-true, and-false}
 use Rattle.blocking_pool.specs.Jobs.{one_if, count_below}
 
 -- tests that agree below a serial count the same
-pub count_same : (p q : ℕ → Bool) (next : ℕ) → ((s : ℕ) → s < next → p s ≡ q s) → count_below p next ≡ count_below q next
+pub count_same : (p q : ℕ → Bool) (next : ℕ) → ((s : ℕ) → s < next → p s ≡ q s)
+    → count_below p next ≡ count_below q next
 count_same p q zero same = refl
 count_same p q (suc next) same =
     let rest = count_same p q next (λ s below. same s (omega (arith, below))) in
@@ -13,12 +15,15 @@ count_same p q (suc next) same =
     omega (arith, rest, here)
 
 -- tests that differ at one serial
-pub count_changed : (p q : ℕ → Bool) (serial next : ℕ) → ((other : ℕ) → other ≢ serial → q other ≡ p other) → serial < next → count_below q next + one_if (p serial) ≡ count_below p next + one_if (q serial)
+pub count_changed : (p q : ℕ → Bool) (serial next : ℕ)
+    → ((other : ℕ) → other ≢ serial → q other ≡ p other) → serial < next
+    → count_below q next + one_if (p serial) ≡ count_below p next + one_if (q serial)
 count_changed p q serial zero same below = absurd (omega (arith, below))
 count_changed p q serial (suc next) same below =
     elim (cases_eq next serial) [
       | inl here ↦
-          let rest = count_same q p next (λ s less. same s (λ e. absurd (omega (arith, e, here, less)))) in
+          let rest =
+          count_same q p next (λ s less. same s (λ e. absurd (omega (arith, e, here, less)))) in
           let was = ap (λ s. one_if (p s)) here in
           let is = ap (λ s. one_if (q s)) here in
           omega (arith, rest, was, is)
@@ -29,7 +34,8 @@ count_changed p q serial (suc next) same below =
     ]
 
 -- what passes is counted
-pub count_some : (p : ℕ → Bool) (serial next : ℕ) → serial < next → p serial ≡ true → 0 < count_below p next
+pub count_some : (p : ℕ → Bool) (serial next : ℕ) → serial < next → p serial ≡ true
+    → 0 < count_below p next
 count_some p serial zero below passes = absurd (omega (arith, below))
 count_some p serial (suc next) below passes =
     elim (cases_eq next serial) [
@@ -56,16 +62,19 @@ count_within p zero = omega arith
 count_within p (suc next) = omega (arith, count_within p next, at_most_one (p next))
 
 -- where each that passes one test passes another
-pub count_less : (p q : ℕ → Bool) (next : ℕ) → ((s : ℕ) → p s ≡ true → q s ≡ true) → count_below p next ≤ count_below q next
+pub count_less : (p q : ℕ → Bool) (next : ℕ) → ((s : ℕ) → p s ≡ true → q s ≡ true)
+    → count_below p next ≤ count_below q next
 count_less p q zero each = omega arith
-count_less p q (suc next) each = omega (arith, count_less p q next each, here (p next) (q next) (each next))
+count_less p q (suc next) each =
+    omega (arith, count_less p q next each, here (p next) (q next) (each next))
   where
     here : (a b : Bool) → (a ≡ true → b ≡ true) → one_if a ≤ one_if b
     here true b passes = let one = ap one_if (passes refl) in omega (arith, one)
     here false b passes = omega arith
 
 -- where one is counted, no other passes
-pub count_one : (p : ℕ → Bool) (serial other next : ℕ) → count_below p next ≡ 1 → p serial ≡ true → serial < next → other < next → other ≢ serial → p other ≡ false
+pub count_one : (p : ℕ → Bool) (serial other next : ℕ) → count_below p next ≡ 1 → p serial ≡ true
+    → serial < next → other < next → other ≢ serial → p other ≡ false
 count_one p serial other next one passes below under differs = by_test (p other) refl
   where
     q : ℕ → Bool
@@ -86,4 +95,5 @@ count_one p serial other next one passes below under differs = by_test (p other)
 
     by_test : (b : Bool) → p other ≡ b → p other ≡ false
     by_test false is = is
-    by_test true is = absurd (omega (arith, none, count_some q other next under (others other differs ∙ is)))
+    by_test true is =
+        absurd (omega (arith, none, count_some q other next under (others other differs ∙ is)))

@@ -15,4 +15,5 @@ serials_of numbers = map (λ number. number.serial) numbers
 -- each number is less than all that come after it
 abbrev pub IsRising : List ℕ → Type 0
 IsRising [] = Unit {0}
-IsRising (number ∷ numbers) = ((other : ℕ) → is_in other numbers ≡ true → number < other) × IsRising numbers
+IsRising (number ∷ numbers) =
+    ((other : ℕ) → is_in other numbers ≡ true → number < other) × IsRising numbers

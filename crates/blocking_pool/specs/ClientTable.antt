@@ -1,5 +1,6 @@
 -- What is known of the clients that have jobs.
-use Rattle.std.specs.Prelude.{◌≡◌, ℕ, ◌+◌, ◌-◌, ◌≤◌, ◌==◌, if◌then◌else◌, List, ◌∷◌, map, unwrap_or, refl}
+use Rattle.std.specs.Prelude.{◌≡◌, ℕ, ◌+◌, ◌-◌, ◌≤◌, ◌==◌, if◌then◌else◌, List, ◌∷◌, map, unwrap_or}
+use Rattle.std.specs.Prelude.{refl}
 use Rattle.std.specs.Ordering.{nat_cmp}
 use Rattle.std.specs.FinMap.{FinMap, get, len, code, from_entries}
 use Rattle.std.specs.Coded.{Coded, code_by, coded×, coded_ℕ}
@@ -19,14 +20,22 @@ pub record Clients : Type 0 where
 
 abbrev pub client_code : Coded Client
 client_code =
-    code_by (ℕ × (ℕ × (ℕ × (ℕ × ℕ)))) (coded× coded_ℕ (coded× coded_ℕ (coded× coded_ℕ (coded× coded_ℕ coded_ℕ))))
-    (λ client. (client.line.first, (client.line.last, (client.line.len, (client.jobs, client.running)))))
-    (λ parts. record { line = record { first = parts.0; last = parts.1.0; len = parts.1.1.0 }; jobs = parts.1.1.1.0; running = parts.1.1.1.1 })
+    code_by (ℕ × (ℕ × (ℕ × (ℕ × ℕ))))
+    (coded× coded_ℕ (coded× coded_ℕ (coded× coded_ℕ (coded× coded_ℕ coded_ℕ))))
+    (λ client.
+    (client.line.first, (client.line.last, (client.line.len, (client.jobs, client.running)))))
+    (λ parts. record {
+      line = record { first = parts.0; last = parts.1.0; len = parts.1.1.0 };
+      jobs = parts.1.1.1.0;
+      running = parts.1.1.1.1;
+    })
     (λ _. refl)
 
 abbrev pub clients_code : Coded Clients
 clients_code =
-    code_by (Known × ℕ) (coded× (code coded_ℕ client_code) coded_ℕ) (λ clients. (clients.known, clients.spare)) (λ parts. record { known = parts.0; spare = parts.1 }) (λ _. refl)
+    code_by (Known × ℕ)
+    (coded× (code coded_ℕ client_code) coded_ℕ) (λ clients. (clients.known, clients.spare))
+    (λ parts. record { known = parts.0; spare = parts.1 }) (λ _. refl)
 
 -- a line that is empty
 abbrev pub no_line : Line
@@ -55,7 +64,8 @@ client_at known client = unwrap_or (get known client) no_client
 
 -- nothing is known of a client now, and of the others what was
 pub record Forgets (old new : Clients) (client : ℕ) : Type 0 where
-  pub states : (other : ℕ) → client_at new.known other ≡ (if other == client then no_client else client_at old.known other)
+  pub states : (other : ℕ) → client_at new.known other
+      ≡ (if other == client then no_client else client_at old.known other)
   pub fewer : len new.known ≤ len old.known
 
 -- each client that is known stands here once

@@ -1,5 +1,6 @@
 -- Clients: how many jobs of each aren't over, how many of these run, and which clients have room.
-use Rattle.std.specs.Prelude.{◌≡◌, ℕ, ◌+◌, ◌-◌, ◌==◌, nat_lt, if◌then◌else◌, Bool, true, Option, Some, None, unwrap_or, refl}
+use Rattle.std.specs.Prelude.{◌≡◌, ℕ, ◌+◌, ◌-◌, ◌==◌, nat_lt, if◌then◌else◌, Bool, true, Option}
+use Rattle.std.specs.Prelude.{Some, None, unwrap_or, refl}
 use Rattle.std.specs.Ordering.{nat_cmp}
 use Rattle.std.specs.FinMap.{FinMap, get}
 use Rattle.std.specs.FinMap as map
@@ -11,7 +12,8 @@ pub record Tally : Type 0 where
   pub running : ℕ
 
 abbrev pub tally_code : Coded Tally
-tally_code = code_by (ℕ × ℕ) (coded× coded_ℕ coded_ℕ) (λ tally. (tally.jobs, tally.running)) (λ parts. record { jobs = parts.0; running = parts.1 }) (λ _. refl)
+tally_code = code_by (ℕ × ℕ) (coded× coded_ℕ coded_ℕ) (λ tally. (tally.jobs, tally.running))
+    (λ parts. record { jobs = parts.0; running = parts.1 }) (λ _. refl)
 
 -- the tallies of the clients that have jobs
 abbrev pub Tallies : Type 0
@@ -30,7 +32,8 @@ tally_at tallies client = unwrap_or (get tallies client) no_jobs
 
 -- one client has another tally now, and the others have theirs
 abbrev pub IsTallied : Tallies → Tallies → ℕ → Tally → Type 0
-IsTallied old new client tally = (other : ℕ) → tally_at new other ≡ (if other == client then tally else tally_at old other)
+IsTallied old new client tally = (other : ℕ)
+    → tally_at new other ≡ (if other == client then tally else tally_at old other)
 
 -- each client has the tally that it had
 abbrev pub SameTallies : Tallies → Tallies → Type 0

@@ -1,12 +1,14 @@
 -- The counts of a pool's workers, and the bell.
-use Rattle.std.specs.Prelude.{ℕ, ◌+◌, ◌-◌, ◌≤◌, if◌then◌else◌, Bool, Option, Some, None, unwrap_or, nat_lt, refl}
+use Rattle.std.specs.Prelude.{ℕ, ◌+◌, ◌-◌, ◌≤◌, if◌then◌else◌, Bool, Option, Some, None, unwrap_or}
+use Rattle.std.specs.Prelude.{nat_lt, refl}
 use Rattle.std.specs.Coded.{Coded, code_by, coded×, coded_ℕ, coded_option}
 use Rattle.blocking_pool.specs.declared.pool.bell.BellKind.{BellKind}
 use Rattle.blocking_pool.specs.declared.pool.bell.BellKind.TheVariants.{Silent, One, All}
 use Rattle.blocking_pool.specs.contracts.pool.bell.BellKind.{the_row}
 
--- The workers, arrived or not; those of them that run no job; those of these that haven't arrived; the limit, once it
--- stands; the number that the setting gives; the number of the next start; and what rang since the bell was last asked.
+-- The workers, arrived or not; those of them that run no job; those of these that haven't arrived;
+-- the limit, once it stands; the number that the setting gives; the number of the next start; and
+-- what rang since the bell was last asked.
 pub record Counts : Type 0 where
   pub workers : ℕ
   pub idle : ℕ
@@ -20,14 +22,31 @@ abbrev pub counts_code : Coded Counts
 counts_code =
     code_by
     (ℕ × (ℕ × (ℕ × (Option ℕ × (ℕ × (ℕ × BellKind))))))
-    (coded× coded_ℕ (coded× coded_ℕ (coded× coded_ℕ (coded× (coded_option coded_ℕ) (coded× coded_ℕ (coded× coded_ℕ the_row.coded))))))
+    (coded× coded_ℕ (coded× coded_ℕ (coded× coded_ℕ
+    (coded× (coded_option coded_ℕ) (coded× coded_ℕ (coded× coded_ℕ the_row.coded))))))
     (λ c. (c.workers, (c.idle, (c.arriving, (c.limit, (c.setting, (c.next_worker, c.bell)))))))
-    (λ p. record { workers = p.0; idle = p.1.0; arriving = p.1.1.0; limit = p.1.1.1.0; setting = p.1.1.1.1.0; next_worker = p.1.1.1.1.1.0; bell = p.1.1.1.1.1.1 })
+    (λ p. record {
+      workers = p.0;
+      idle = p.1.0;
+      arriving = p.1.1.0;
+      limit = p.1.1.1.0;
+      setting = p.1.1.1.1.0;
+      next_worker = p.1.1.1.1.1.0;
+      bell = p.1.1.1.1.1.1;
+    })
     (λ _. refl)
 
 -- no worker yet
 abbrev pub no_workers : ℕ → ℕ → Counts
-no_workers setting next_worker = record { workers = 0; idle = 0; arriving = 0; limit = None; setting = setting; next_worker = next_worker; bell = Silent }
+no_workers setting next_worker = record {
+  workers = 0;
+  idle = 0;
+  arriving = 0;
+  limit = None;
+  setting = setting;
+  next_worker = next_worker;
+  bell = Silent;
+}
 
 -- the limit that a growth goes by: the one that stands, else the setting's
 abbrev pub limit_of : Counts → ℕ
@@ -58,7 +77,8 @@ after_arrival counts = record counts { arriving = counts.arriving - 1 }
 
 -- a worker stops, and one is notified where a job is queued
 abbrev pub after_stop : Bool → Counts → Counts
-after_stop is_queued counts = after_ring (if is_queued then One else Silent) (record counts { workers = counts.workers - 1; idle = counts.idle - 1 })
+after_stop is_queued counts = after_ring (if is_queued then One else Silent)
+    (record counts { workers = counts.workers - 1; idle = counts.idle - 1 })
 
 -- whom a new limit notifies: all, where a limit stood and was greater
 abbrev pub ring_of_limit : ℕ → Option ℕ → BellKind
@@ -67,7 +87,10 @@ ring_of_limit limit (Some earlier) = if nat_lt limit earlier then All else Silen
 
 -- the limit is set
 abbrev pub after_limit : ℕ → Counts → Counts
-after_limit limit counts = record counts { limit = Some limit; bell = louder (ring_of_limit limit counts.limit) counts.bell }
+after_limit limit counts = record counts {
+  limit = Some limit;
+  bell = louder (ring_of_limit limit counts.limit) counts.bell;
+}
 
 -- the bell was asked
 abbrev pub after_bell : Counts → Counts

@@ -1,5 +1,6 @@
 -- Growth: which starts are due, which are refused, and what a growth leaves.
-use Rattle.std.specs.Prelude.{◌≡◌, ℕ, ◌+◌, ◌*◌, ◌<◌, ◌==◌, ◌&&◌, nat_lt, max, if◌then◌else◌, Bool, true, false, not, Some, MatchBool}
+use Rattle.std.specs.Prelude.{◌≡◌, ℕ, ◌+◌, ◌*◌, ◌<◌, ◌==◌, ◌&&◌, nat_lt, max, if◌then◌else◌, Bool}
+use Rattle.std.specs.Prelude.{true, false, not, Some, MatchBool}
 use Rattle.blocking_pool.specs.declared.pool.bell.BellKind.{BellKind}
 use Rattle.blocking_pool.specs.declared.pool.bell.BellKind.TheVariants.{Silent, All}
 use Rattle.blocking_pool.specs.Counts.{Counts, limit_of, louder}
@@ -8,13 +9,13 @@ use Rattle.blocking_pool.specs.Counts.{Counts, limit_of, louder}
 abbrev pub greatest : ℕ
 greatest = 18446744073709551615
 
--- Whether one more start is due after m starts: more jobs are ready than five times the idle workers, and there are
--- fewer workers than the limit.
+-- Whether one more start is due after m starts: more jobs are ready than five times the idle
+-- workers, and there are fewer workers than the limit.
 abbrev pub is_due : ℕ → ℕ → ℕ → ℕ → ℕ → Bool
 is_due ready idle workers limit m = nat_lt (5 * (idle + m)) ready && nat_lt (workers + m) limit
 
--- What is asked of a starter: how it may answer the start of each number (true: it is refused), and how many starts it
--- had refused before, and has refused after.
+-- What is asked of a starter: how it may answer the start of each number (true: it is refused), and
+-- how many starts it had refused before, and has refused after.
 pub record Asking : Type 1 where
   pub may_answer : ℕ → Bool → Type 0
   pub refusals_before : ℕ
@@ -26,21 +27,26 @@ RefusesNone asking = asking.refusals_after ≡ asking.refusals_before
 
 -- each start that may be answered so now might have been answered so before
 abbrev pub Narrows : (ℕ → Bool → Type 0) → (ℕ → Bool → Type 0) → Type 0
-Narrows may_answer may_still = (number : ℕ) (refused : Bool) → may_still number refused → may_answer number refused
+Narrows may_answer may_still = (number : ℕ) (refused : Bool) → may_still number refused
+    → may_answer number refused
 
--- how the start of this number may be answered (true: it is refused): the greatest number is always refused
+-- how the start of this number may be answered (true: it is refused): the greatest number is always
+-- refused
 abbrev pub StartAnswer : (ℕ → Bool → Type 0) → ℕ → Bool → Type 0
-StartAnswer may_answer number refused = MatchBool (number == greatest) (refused ≡ true) (may_answer number refused)
+StartAnswer may_answer number refused =
+    MatchBool (number == greatest) (refused ≡ true) (may_answer number refused)
 
 -- a growth: how many workers were started, and whether the start after them was refused
 pub record Growth : Type 0 where
   pub started : ℕ
   pub refused : Bool
 
--- The starts of a growth: each one that was made was due and wasn't refused, and the next one is due exactly where it
--- was refused. Starts are numbered on from the first.
-pub record IsGrowth (answer : ℕ → Bool → Type 0) (ready idle workers limit first : ℕ) (growth : Growth) : Type 0 where
-  pub each : (m : ℕ) → m < growth.started → (is_due ready idle workers limit m ≡ true) × answer (first + m) false
+-- The starts of a growth: each one that was made was due and wasn't refused, and the next one is
+-- due exactly where it was refused. Starts are numbered on from the first.
+pub record IsGrowth (answer : ℕ → Bool → Type 0) (ready idle workers limit first : ℕ)
+    (growth : Growth) : Type 0 where
+  pub each : (m : ℕ) → m < growth.started
+      → (is_due ready idle workers limit m ≡ true) × answer (first + m) false
   pub next : is_due ready idle workers limit growth.started ≡ growth.refused
   pub cause : growth.refused ≡ true → answer (first + growth.started) true
 
@@ -71,7 +77,8 @@ after_growth counts growth =
       bell = louder (ring_of growth) counts.bell;
     }
 
--- a starter's count of refusals rises by one exactly where it was asked and refused, so it is asked once
+-- a starter's count of refusals rises by one exactly where it was asked and refused, so it is asked
+-- once
 abbrev pub Refusals : Bool → ℕ → ℕ → Type 0
 Refusals true before after = after ≡ before + 1
 Refusals false before after = after ≡ before
@@ -82,7 +89,8 @@ was_asked counts growth = growth.refused && not (counts.next_worker + growth.sta
 
 -- What a growth does for so many ready jobs.
 pub record Grows (asking : Asking) (ready : ℕ) (old new : Counts) (growth : Growth) : Type 0 where
-  pub starts : IsGrowth (StartAnswer asking.may_answer) ready old.idle old.workers (limit_of old) old.next_worker growth
+  pub starts : IsGrowth (StartAnswer asking.may_answer) ready old.idle old.workers (limit_of old)
+      old.next_worker growth
   pub counts : new ≡ after_growth old growth
   pub refusals : Refusals (was_asked old growth) asking.refusals_before asking.refusals_after
 
@@ -101,4 +109,7 @@ one_more counts =
 
 -- a start that was refused
 abbrev pub none_more : Counts → Counts
-none_more counts = record counts { limit = Some (max 1 counts.workers); next_worker = number_after counts.next_worker true }
+none_more counts = record counts {
+  limit = Some (max 1 counts.workers);
+  next_worker = number_after counts.next_worker true;
+}

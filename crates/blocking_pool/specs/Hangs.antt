@@ -1,5 +1,7 @@
--- How the lines of the clients, their heads and the count of what is ready hang together with the queue.
-use Rattle.std.specs.Prelude.{◌≡◌, ℕ, ◌<◌, ◌==◌, ◌&&◌, if◌then◌else◌, Bool, true, false, List, [], ◌∷◌, length, filter}
+-- How the lines of the clients, their heads and the count of what is ready hang together with the
+-- queue.
+use Rattle.std.specs.Prelude.{◌≡◌, ℕ, ◌<◌, ◌==◌, ◌&&◌, if◌then◌else◌, Bool, true, false, List, []}
+use Rattle.std.specs.Prelude.{◌∷◌, length, filter}
 use Rattle.std.specs.List.{All}
 use Rattle.blocking_pool.specs.Lists.{is_in, IsOnce}
 use Rattle.blocking_pool.specs.Heads.{Head, times}
@@ -30,9 +32,11 @@ abbrev pub Leads : (ℕ → ℕ) → List ℕ → ℕ → Type 0
 Leads number [] n = ⊥
 Leads number (place ∷ places) n = number place ≡ n
 
--- The lines are the queue's, by clients; numbers of entry rise along the queue; each client that is open and has a line has one head,
--- which has the number of its first place; and so many places are ready.
-pub record Hangs (client number : ℕ → ℕ) (is_open : ℕ → Bool) (queue : List ℕ) (line : ℕ → List ℕ) (heads : List Head) (next ready : ℕ) : Type 0 where
+-- The lines are the queue's, by clients; numbers of entry rise along the queue; each client that is
+-- open and has a line has one head, which has the number of its first place; and so many places are
+-- ready.
+pub record Hangs (client number : ℕ → ℕ) (is_open : ℕ → Bool) (queue : List ℕ) (line : ℕ → List ℕ)
+    (heads : List Head) (next ready : ℕ) : Type 0 where
   pub once : IsOnce queue
   pub line_is : (c : ℕ) → line c ≡ line_of client c queue
   pub rises : Rises number queue

@@ -1,5 +1,6 @@
 -- Jobs as a pool has them.
-use Rattle.std.specs.Prelude.{◌≡◌, ℕ, zero, suc, ◌+◌, if◌then◌else◌, Bool, true, false, not, ◌==◌, List, [], ◌∷◌, Option, Some, None, is_some, option_map, refl}
+use Rattle.std.specs.Prelude.{◌≡◌, ℕ, zero, suc, ◌+◌, if◌then◌else◌, Bool, true, false, not, ◌==◌}
+use Rattle.std.specs.Prelude.{List, [], ◌∷◌, Option, Some, None, is_some, option_map, refl}
 use Rattle.std.specs.Ordering.{nat_cmp}
 use Rattle.std.specs.FinMap.{FinMap, get}
 use Rattle.std.specs.FinMap as map
@@ -25,8 +26,9 @@ abbrev pub is_parked : Standing → Bool
 is_parked Parked = true
 is_parked _ = false
 
--- A job that isn't over: where it stands in the table, whose it is, how it stands, whether a wake met it since its last
--- take, whether it was cancelled, and its value, which the worker has while it runs.
+-- A job that isn't over: where it stands in the table, whose it is, how it stands, whether a wake
+-- met it since its last take, whether it was cancelled, and its value, which the worker has while
+-- it runs.
 pub record Job (J : Type 0) : Type 0 where
   pub place : ℕ
   pub client : ℕ
@@ -39,9 +41,17 @@ abbrev pub job_code : {J : Type 0} → Coded J → Coded (Job J)
 job_code {J} code =
     code_by
     (ℕ × (ℕ × (Standing × (Bool × (Bool × Option J)))))
-    (coded× coded_ℕ (coded× coded_ℕ (coded× the_row.coded (coded× coded_bool (coded× coded_bool (coded_option code))))))
+    (coded× coded_ℕ (coded× coded_ℕ
+    (coded× the_row.coded (coded× coded_bool (coded× coded_bool (coded_option code))))))
     (λ job. (job.place, (job.client, (job.standing, (job.woken, (job.cancelled, job.value))))))
-    (λ parts. record { place = parts.0; client = parts.1.0; standing = parts.1.1.0; woken = parts.1.1.1.0; cancelled = parts.1.1.1.1.0; value = parts.1.1.1.1.1 })
+    (λ parts. record {
+      place = parts.0;
+      client = parts.1.0;
+      standing = parts.1.1.0;
+      woken = parts.1.1.1.0;
+      cancelled = parts.1.1.1.1.0;
+      value = parts.1.1.1.1.1;
+    })
     (λ _. refl)
 
 -- the jobs that aren't over, by their serials
@@ -62,7 +72,14 @@ count_below passes (suc serial) = count_below passes serial + one_if (passes ser
 module _ {J : Type 0} where
   -- a job that has just been accepted
   abbrev pub new_job : ℕ → ℕ → J → Job J
-  new_job place client value = record { place = place; client = client; standing = Queued; woken = false; cancelled = false; value = Some value }
+  new_job place client value = record {
+    place = place;
+    client = client;
+    standing = Queued;
+    woken = false;
+    cancelled = false;
+    value = Some value;
+  }
 
   -- the job in the hands of a worker
   abbrev pub entry_after_take : Job J → Job J
@@ -78,7 +95,8 @@ module _ {J : Type 0} where
 
   -- each value is there exactly while its job isn't running: then its worker has it
   abbrev pub HaveValues : Jobs J → Type 0
-  HaveValues jobs = (serial : ℕ) (job : Job J) → get jobs serial ≡ Some job → is_some job.value ≡ not (is_running job.standing)
+  HaveValues jobs = (serial : ℕ) (job : Job J) → get jobs serial ≡ Some job
+      → is_some job.value ≡ not (is_running job.standing)
 
   -- a job that stands in the queue again
   abbrev pub entry_after_requeue : Job J → Job J
@@ -137,7 +155,8 @@ module _ {J : Type 0} where
   -- the jobs, of which these stand in the queue again
   abbrev pub jobs_after_requeue : Jobs J → List ℕ → Jobs J
   jobs_after_requeue jobs [] = jobs
-  jobs_after_requeue jobs (serial ∷ serials) = jobs_after_requeue (amend jobs serial entry_after_requeue) serials
+  jobs_after_requeue jobs (serial ∷ serials) =
+      jobs_after_requeue (amend jobs serial entry_after_requeue) serials
 
   abbrev pub is_parked_job : Option (Job J) → Bool
   is_parked_job None = false

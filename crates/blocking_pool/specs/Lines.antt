@@ -22,9 +22,13 @@ walk_line after (suc count) place = place ∷ walk_line after count (after place
 abbrev pub places_of : (ℕ → ℕ) → Line → List ℕ
 places_of after line = walk_line after line.len line.first
 
--- Each line ends with its last place, each place is below the bound, and no place stands twice, in one line or in two.
+-- Each line ends with its last place, each place is below the bound, and no place stands twice, in
+-- one line or in two.
 pub record AreLined (after : ℕ → ℕ) (bound : ℕ) (lines : ℕ → Line) : Type 0 where
-  pub last : (client : ℕ) → 0 < (lines client).len → (lines client).last ≡ last_of 0 (places_of after (lines client))
-  pub within : (client place : ℕ) → is_in place (places_of after (lines client)) ≡ true → place < bound
+  pub last : (client : ℕ) → 0 < (lines client).len
+      → (lines client).last ≡ last_of 0 (places_of after (lines client))
+  pub within : (client place : ℕ) → is_in place (places_of after (lines client)) ≡ true
+      → place < bound
   pub once : (client : ℕ) → IsOnce (places_of after (lines client))
-  pub apart : (client other place : ℕ) → is_in place (places_of after (lines client)) ≡ true → is_in place (places_of after (lines other)) ≡ true → client ≡ other
+  pub apart : (client other place : ℕ) → is_in place (places_of after (lines client)) ≡ true
+      → is_in place (places_of after (lines other)) ≡ true → client ≡ other

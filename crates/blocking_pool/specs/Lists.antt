@@ -1,5 +1,6 @@
 -- Lists of numbers: what is in one, and what is left of it.
-use Rattle.std.specs.Prelude.{◌≡◌, ℕ, ◌==◌, not, if◌then◌else◌, Bool, false, List, [], ◌∷◌, filter, Option, Some, None}
+use Rattle.std.specs.Prelude.{◌≡◌, ℕ, ◌==◌, not, if◌then◌else◌, Bool, false, List, [], ◌∷◌, filter}
+use Rattle.std.specs.Prelude.{Option, Some, None}
 use Rattle.std.specs.List.{list_any}
 
 -- whether the number is in the list

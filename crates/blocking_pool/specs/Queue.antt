@@ -1,13 +1,16 @@
 -- The queue by clients, as the table sees it.
-use Rattle.std.specs.Prelude.{◌≡◌, ℕ, ◌<◌, ◌≤◌, ◌==◌, ◌||◌, nat_lt, Bool, List, [], filter, length, Option, Some, None, is_some, slice_index_or, refl}
+use Rattle.std.specs.Prelude.{◌≡◌, ℕ, ◌<◌, ◌≤◌, ◌==◌, ◌||◌, nat_lt, Bool, List, [], filter, length}
+use Rattle.std.specs.Prelude.{Option, Some, None, is_some, slice_index_or, refl}
 use Rattle.std.specs.FinMap.{get}
 use Rattle.std.specs.Coded.{Coded, code_by, coded×, coded_ℕ, coded_list, coded_option}
 use Rattle.blocking_pool.specs.Lists.{without, first_of}
 use Rattle.blocking_pool.specs.Chain.{Chain}
-use Rattle.blocking_pool.specs.Clients.{Tally, Tallies, tallies_code, tally_at, IsTallied, SameTallies, started, has_room_at}
+use Rattle.blocking_pool.specs.Clients.{Tally, Tallies, tallies_code, tally_at, IsTallied}
+use Rattle.blocking_pool.specs.Clients.{SameTallies, started, has_room_at}
 
--- The queued places in order; the client of each place that may stand in the queue; the tallies of the clients; the
--- limit of running jobs for each client, if one is set; and for how many clients more there is room.
+-- The queued places in order; the client of each place that may stand in the queue; the tallies of
+-- the clients; the limit of running jobs for each client, if one is set; and for how many clients
+-- more there is room.
 pub record Queue : Type 0 where
   pub places : List ℕ
   pub owners : List ℕ
@@ -18,9 +21,16 @@ pub record Queue : Type 0 where
 abbrev pub queue_code : Coded Queue
 queue_code =
     code_by (List ℕ × (List ℕ × (Tallies × (Option ℕ × ℕ))))
-    (coded× (coded_list coded_ℕ) (coded× (coded_list coded_ℕ) (coded× tallies_code (coded× (coded_option coded_ℕ) coded_ℕ))))
+    (coded× (coded_list coded_ℕ) (coded× (coded_list coded_ℕ)
+    (coded× tallies_code (coded× (coded_option coded_ℕ) coded_ℕ))))
     (λ queue. (queue.places, (queue.owners, (queue.tallies, (queue.limit, queue.spare)))))
-    (λ parts. record { places = parts.0; owners = parts.1.0; tallies = parts.1.1.0; limit = parts.1.1.1.0; spare = parts.1.1.1.1 })
+    (λ parts. record {
+      places = parts.0;
+      owners = parts.1.0;
+      tallies = parts.1.1.0;
+      limit = parts.1.1.1.0;
+      spare = parts.1.1.1.1;
+    })
     (λ _. refl)
 
 -- the client of a place
@@ -37,7 +47,8 @@ line_in queue client = filter (λ place. owner_at queue place == client) queue.p
 
 -- the places that are ready, in order: those whose client has room
 abbrev pub ready_in : Queue → List ℕ
-ready_in queue = filter (λ place. has_room_at queue.limit queue.tallies (owner_at queue place)) queue.places
+ready_in queue =
+    filter (λ place. has_room_at queue.limit queue.tallies (owner_at queue place)) queue.places
 
 -- whether there is room for what is known of this client
 abbrev pub has_seat : Queue → ℕ → Bool
@@ -70,7 +81,8 @@ pub record TakesPlace (old : Queue) (place : ℕ) (new : Queue) : Type 0 where
   pub first : first_of (ready_in old) ≡ Some place
   pub places : new.places ≡ without place old.places
   pub owners : new.owners ≡ old.owners
-  pub tallies : IsTallied old.tallies new.tallies (owner_at old place) (started (tally_at old.tallies (owner_at old place)))
+  pub tallies : IsTallied old.tallies new.tallies (owner_at old place)
+      (started (tally_at old.tallies (owner_at old place)))
   pub limit : new.limit ≡ old.limit
 
 -- the first ready place is taken, or there is none

@@ -13,11 +13,13 @@ is_loud _ = true
 module _ {J : Type 0} where
   -- a job is ready that wasn't
   abbrev pub IsNewlyReady : Pool J → Pool J → ℕ → Type 0
-  IsNewlyReady old new serial = (is_in serial (ready new) ≡ true) × (is_in serial (ready old) ≡ false)
+  IsNewlyReady old new serial =
+      (is_in serial (ready new) ≡ true) × (is_in serial (ready old) ≡ false)
 
   -- where a job is ready that wasn't, someone is notified
   abbrev pub RingsForReady : Pool J → Pool J → Type 0
-  RingsForReady old new = (serial : ℕ) → IsNewlyReady old new serial → is_loud new.counts.bell ≡ true
+  RingsForReady old new = (serial : ℕ) → IsNewlyReady old new serial
+      → is_loud new.counts.bell ≡ true
 
   -- and so are all
   abbrev pub RingsAllForReady : Pool J → Pool J → Type 0
@@ -25,4 +27,5 @@ module _ {J : Type 0} where
 
   -- no job is ready that wasn't
   abbrev pub MakesNoneReady : Pool J → Pool J → Type 0
-  MakesNoneReady old new = (serial : ℕ) → is_in serial (ready new) ≡ true → is_in serial (ready old) ≡ true
+  MakesNoneReady old new = (serial : ℕ) → is_in serial (ready new) ≡ true
+      → is_in serial (ready old) ≡ true

@@ -11,7 +11,8 @@ reason_text Memory = codes "no memory"
 reason_text NoWorker = codes "no worker could be started"
 reason_text Numbers = codes "the numbers are used up"
 
--- the kind of each as an error of the system: a worker that can't be started is what a thread is that can't be
+-- the kind of each as an error of the system: a worker that can't be started is what a thread is
+-- that can't be
 abbrev pub refusal_kind : Refusal → ErrorKind
 refusal_kind Memory = OutOfMemory
 refusal_kind NoWorker = WouldBlock

@@ -1,6 +1,7 @@
--- How a chain is kept: a ring of links. Node 0 is its beginning and its end, and place p has the node p + 1.
--- No public clause cites this file.
-use Rattle.std.specs.Prelude.{◌≡◌, ℕ, zero, suc, ◌-◌, ◌<◌, ◌==◌, if◌then◌else◌, List, [], ◌∷◌, length, slice_index_or}
+-- How a chain is kept: a ring of links. Node 0 is its beginning and its end, and place p has the
+-- node p + 1. No public clause cites this file.
+use Rattle.std.specs.Prelude.{◌≡◌, ℕ, zero, suc, ◌-◌, ◌<◌, ◌==◌, if◌then◌else◌, List, [], ◌∷◌}
+use Rattle.std.specs.Prelude.{length, slice_index_or}
 use Rattle.blocking_pool.specs.Lists.{IsOnce}
 use Rattle.blocking_pool.specs.declared.pool.chain.Link.{Link}
 
@@ -29,7 +30,8 @@ LeadsOn after node (place ∷ places) = (after node ≡ suc place) × LeadsOn af
 -- from the end the ring leads back through these places to this node
 abbrev pub LeadsBack : (ℕ → ℕ) → ℕ → List ℕ → Type 0
 LeadsBack before node [] = before 0 ≡ node
-LeadsBack before node (place ∷ places) = (before (suc place) ≡ node) × LeadsBack before (suc place) places
+LeadsBack before node (place ∷ places) =
+    (before (suc place) ≡ node) × LeadsBack before (suc place) places
 
 -- each place has a link
 abbrev pub AreWithin : ℕ → List ℕ → Type 0
@@ -47,8 +49,10 @@ pub record IsRing (links : List Link) (count : ℕ) : Type 0 where
 
 -- one node now follows another, and all else is as it was
 pub record Joins (old new : List Link) (before after : ℕ) : Type 0 where
-  pub on : (node : ℕ) → node_after new node ≡ (if node == before then after else node_after old node)
-  pub back : (node : ℕ) → node_before new node ≡ (if node == after then before else node_before old node)
+  pub on : (node : ℕ)
+      → node_after new node ≡ (if node == before then after else node_after old node)
+  pub back : (node : ℕ)
+      → node_before new node ≡ (if node == after then before else node_before old node)
   pub count : length new ≡ length old
 
 -- a node stands between the last one and the end

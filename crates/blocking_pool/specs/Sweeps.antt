@@ -13,7 +13,8 @@ module _ {J : Type 0} where
   -- Each parked job was asked for its mark, and may answer so.
   abbrev pub AreAsked : (J → Bool → Type 0) → Jobs J → (ℕ → Bool) → Type 0
   AreAsked may_answer jobs marked =
-      (serial : ℕ) (job : Job J) (value : J) → get jobs serial ≡ Some job → job.standing ≡ Parked → job.value ≡ Some value → may_answer value (marked serial)
+      (serial : ℕ) (job : Job J) (value : J) → get jobs serial ≡ Some job → job.standing ≡ Parked
+      → job.value ≡ Some value → may_answer value (marked serial)
 
   -- whether a job is parked, and bears a mark
   abbrev pub is_due : Jobs J → (ℕ → Bool) → ℕ → Bool

@@ -1,4 +1,5 @@
--- What a table ends as, where a `&mut` to the value of a job is returned. No public clause cites this file.
+-- What a table ends as, where a `&mut` to the value of a job is returned. No public clause cites
+-- this file.
 use Rattle.std.specs.Prelude.{Option, Some, None}
 use Rattle.std.specs.Borrow.{LendsSo, Fml, RattleType, MutBor}
 use Rattle.blocking_pool.specs.Jobs.{JobNumber, entry_with, amend}
@@ -11,8 +12,11 @@ IfLent (Some value) lent kept = lent
 IfLent None lent kept = kept
 
 -- the job ends with the value that is left there; where there is none, the table is as before
-abbrev pub lends_value : (J : RattleType) → MutBor (Table J.Denot) → JobNumber → Option (MutBor J.Denot) → Fml
+abbrev pub lends_value : (J : RattleType) → MutBor (Table J.Denot) → JobNumber
+    → Option (MutBor J.Denot) → Fml
 lends_value J table number value =
     LendsSo (the_row J) J table value
-    (λ last left. IfLent value (HasJobs table.now last (amend table.now.jobs number.serial (entry_with left))) (HasJobs table.now last table.now.jobs))
+    (λ last left. IfLent
+    value (HasJobs table.now last (amend table.now.jobs number.serial (entry_with left)))
+    (HasJobs table.now last table.now.jobs))
     (λ last. HasJobs table.now last table.now.jobs)

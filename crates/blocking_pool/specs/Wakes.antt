@@ -1,7 +1,9 @@
--- What a wake and a cancel do to a job, by how it stands; a job that a pool doesn't have stands nowhere.
+-- What a wake and a cancel do to a job, by how it stands; a job that a pool doesn't have stands
+-- nowhere.
 use Rattle.std.specs.Prelude.{Option, Some, None}
 use Rattle.blocking_pool.specs.declared.pool.standing.Standing.{Standing}
-use Rattle.blocking_pool.specs.declared.pool.standing.Standing.TheVariants.{Queued, Running, Parked, Done, Dropped}
+use Rattle.blocking_pool.specs.declared.pool.standing.Standing.TheVariants.{Queued, Running, Parked}
+use Rattle.blocking_pool.specs.declared.pool.standing.Standing.TheVariants.{Done, Dropped}
 use Rattle.blocking_pool.specs.declared.pool.answer.Woke.{Woke}
 use Rattle.blocking_pool.specs.declared.pool.answer.Woke.TheVariants.{Entered, Marked, Nothing}
 

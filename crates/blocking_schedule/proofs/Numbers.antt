@@ -1,5 +1,6 @@
 -- The numbers of rings and flags.
-use Rattle.std.proofs.Common.{◌≡◌, ℕ, zero, suc, ◌+◌, ◌≤◌, min, Bool, true, false, ◌<◌, refl, sym, subst, ap, ◌∙◌, arith, nat_lt}
+use Rattle.std.proofs.Common.{◌≡◌, ℕ, zero, suc, ◌+◌, ◌≤◌, min, Bool, true, false, ◌<◌, refl, sym}
+use Rattle.std.proofs.Common.{subst, ap, ◌∙◌, arith, nat_lt}
 use Rattle.std.proofs.lemmas.Bool.{lt-ltb, ltb-false}
 use Rattle.blocking_pool.specs.Jobs.{one_if}
 use Rattle.blocking_pool.specs.declared.pool.bell.BellKind.{BellKind}
@@ -10,7 +11,10 @@ use Rattle.blocking_schedule.specs.declared.place.Next.TheVariants as next
 use Rattle.blocking_schedule.specs.declared.place.Place.{Place}
 use Rattle.blocking_schedule.specs.declared.place.Waking.{Waking}
 use Rattle.blocking_schedule.specs.declared.place.Waking.TheVariants as waking
-use Rattle.blocking_schedule.specs.Places.{one_of, all_of, chosen_by, bell_of_stop, place_of, sleep_at, ring_at, all_at, drop_at, lock_at, untold_at, look_at, turn_at, pass_at, arrival_at, turn_after, swept_after, pass_after}
+use Rattle.blocking_schedule.specs.Places.{one_of, all_of, chosen_by, bell_of_stop, place_of}
+use Rattle.blocking_schedule.specs.Places.{sleep_at, ring_at, all_at, drop_at, lock_at, untold_at}
+use Rattle.blocking_schedule.specs.Places.{look_at, turn_at, pass_at, arrival_at, turn_after}
+use Rattle.blocking_schedule.specs.Places.{swept_after, pass_after}
 use Rattle.blocking_schedule.specs.Queues.{has_job, RingsForLimit}
 
 pub one_if-le : (flag : Bool) → one_if flag ≤ 1
@@ -34,7 +38,9 @@ one_is count some = omega arith
 -- and one where so many jobs are queued
 pub ring_of_stop : (count : ℕ) → one_of (bell_of_stop (nat_lt 0 count)) ≡ min 1 count
 ring_of_stop zero = refl
-ring_of_stop (suc count) = let some : nat_lt 0 (suc count) ≡ true = lt-ltb 0 (suc count) (omega arith) in ap (λ flag. one_of (bell_of_stop flag)) some ∙ one_is (suc count) (omega arith)
+ring_of_stop (suc count) =
+    let some : nat_lt 0 (suc count) ≡ true = lt-ltb 0 (suc count) (omega arith) in
+    ap (λ flag. one_of (bell_of_stop flag)) some ∙ one_is (suc count) (omega arith)
 
 -- where no job is queued none is of either kind
 pub no_job : (pool : PoolCounts) → has_job pool ≡ false → (pool.rung ≡ 0) × (pool.swept ≡ 0)
@@ -56,19 +62,66 @@ pub record Leads (next : Next) (to : Place) : Type 0 where
   pub arrivals : arrival_at to ≡ 0
 
 leads : (after : Next) → Leads after (place_of after)
-leads next.Return = record { sleeps = refl; rings = refl; alls = refl; drops = refl; locks = refl; untold = refl; looks = refl; turns = refl; passes = refl; arrivals = refl }
-leads (next.Turn origin) = record { sleeps = refl; rings = refl; alls = refl; drops = refl; locks = refl; untold = refl; looks = refl; turns = refl; passes = refl; arrivals = refl }
-leads next.Free = record { sleeps = refl; rings = refl; alls = refl; drops = refl; locks = refl; untold = refl; looks = refl; turns = refl; passes = refl; arrivals = refl }
-leads next.Stop = record { sleeps = refl; rings = refl; alls = refl; drops = refl; locks = refl; untold = refl; looks = refl; turns = refl; passes = refl; arrivals = refl }
+leads next.Return = record {
+  sleeps = refl;
+  rings = refl;
+  alls = refl;
+  drops = refl;
+  locks = refl;
+  untold = refl;
+  looks = refl;
+  turns = refl;
+  passes = refl;
+  arrivals = refl;
+}
+leads (next.Turn origin) = record {
+  sleeps = refl;
+  rings = refl;
+  alls = refl;
+  drops = refl;
+  locks = refl;
+  untold = refl;
+  looks = refl;
+  turns = refl;
+  passes = refl;
+  arrivals = refl;
+}
+leads next.Free = record {
+  sleeps = refl;
+  rings = refl;
+  alls = refl;
+  drops = refl;
+  locks = refl;
+  untold = refl;
+  looks = refl;
+  turns = refl;
+  passes = refl;
+  arrivals = refl;
+}
+leads next.Stop = record {
+  sleeps = refl;
+  rings = refl;
+  alls = refl;
+  drops = refl;
+  locks = refl;
+  untold = refl;
+  looks = refl;
+  turns = refl;
+  passes = refl;
+  arrivals = refl;
+}
 
 pub leads_to : (after : Next) (to : Place) → to ≡ place_of after → Leads after to
 leads_to after to same = subst (Leads after) (sym same) (leads after)
 
 -- a limit that rings nobody lets nobody stand over it who didn't before
-pub quiet_limit : (pool : PoolCounts) (limit : ℕ) (bell : BellKind) → RingsForLimit pool limit bell → (pool.is_limit_set ≡ false → pool.workers ≡ 0) → all_of bell ≡ 0 → pool.workers ≤ pool.limit → pool.workers ≤ limit
+pub quiet_limit : (pool : PoolCounts) (limit : ℕ) (bell : BellKind) → RingsForLimit pool limit bell
+    → (pool.is_limit_set ≡ false → pool.workers ≡ 0) → all_of bell ≡ 0 → pool.workers ≤ pool.limit
+    → pool.workers ≤ limit
 quiet_limit pool limit Silent rings unset quiet fits = by_flag pool.is_limit_set rings unset
   where
-    by_flag : (flag : Bool) → (flag ≡ true → pool.limit ≤ limit) → (flag ≡ false → pool.workers ≡ 0) → pool.workers ≤ limit
+    by_flag : (flag : Bool) → (flag ≡ true → pool.limit ≤ limit) → (flag ≡ false → pool.workers ≡ 0)
+        → pool.workers ≤ limit
     by_flag true rings unset = let more = rings refl in omega arith
     by_flag false rings unset = let none = unset refl in omega arith
 quiet_limit pool limit One rings unset quiet fits = absurd rings

@@ -5,12 +5,21 @@ use Rattle.blocking_schedule.specs.declared.seat.Act.{Act}
 use Rattle.blocking_schedule.specs.declared.seat.Act.TheVariants as act
 use Rattle.blocking_schedule.specs.declared.seat.Meeting.{Meeting}
 use Rattle.blocking_schedule.specs.declared.seat.Polling.{Polling}
-use Rattle.blocking_schedule.specs.declared.seat.Polling.TheVariants.{Away, Looked, Registered, Waits, Forsaken}
+use Rattle.blocking_schedule.specs.declared.seat.Polling.TheVariants.{Away, Looked, Registered}
+use Rattle.blocking_schedule.specs.declared.seat.Polling.TheVariants.{Waits, Forsaken}
 use Rattle.blocking_schedule.specs.Sequences.{InTurn}
 
 -- nothing is there, nobody has polled, and no waker was registered
 abbrev pub Begins : Meeting → Type 0
-Begins m = m ≡ record { is_there = false; is_gone = false; seat = None; in_hand = None; registered = 0; is_woken = false; polling = Away }
+Begins m = m ≡ record {
+  is_there = false;
+  is_gone = false;
+  seat = None;
+  in_hand = None;
+  registered = 0;
+  is_woken = false;
+  polling = Away;
+}
 
 -- no poll is under way
 abbrev pub may_begin : Polling → Bool
@@ -24,21 +33,28 @@ may_begin Forsaken = true
 
 -- a poll takes what is there, and may leave something; or it finds nothing, and empties the seat
 pub record LooksIn (rest : Bool) (old new : Meeting) : Type 0 where
-  pub found : may_begin old.polling ≡ true → old.is_there ≡ true → new ≡ record old { is_there = rest; polling = Away }
-  pub nothing : may_begin old.polling ≡ true → old.is_there ≡ false → new ≡ record old { seat = None; polling = Looked }
+  pub found : may_begin old.polling ≡ true → old.is_there ≡ true
+      → new ≡ record old { is_there = rest; polling = Away }
+  pub nothing : may_begin old.polling ≡ true → old.is_there ≡ false
+      → new ≡ record old { seat = None; polling = Looked }
   pub otherwise : may_begin old.polling ≡ false → new ≡ old
 
 -- its waker has the next number, and wasn't called
 pub record Registers (old new : Meeting) : Type 0 where
-  pub next : old.polling ≡ Looked → old.registered < greatest → new ≡ record old { registered = old.registered + 1; is_woken = false; polling = Registered }
+  pub next : old.polling ≡ Looked → old.registered < greatest
+      → new ≡ record old { registered = old.registered + 1; is_woken = false; polling = Registered }
   pub full : greatest ≤ old.registered → new ≡ old
   pub otherwise : (old.polling ≡ Looked → ⊥) → new ≡ old
 
--- it takes what is there, and may leave something; else it is seated with its last waker, or, where the job is gone, it isn't
+-- it takes what is there, and may leave something; else it is seated with its last waker, or, where
+-- the job is gone, it isn't
 pub record Asks (rest : Bool) (old new : Meeting) : Type 0 where
-  pub found : old.polling ≡ Registered → old.is_there ≡ true → new ≡ record old { is_there = rest; polling = Away }
-  pub forsaken : old.polling ≡ Registered → old.is_there ≡ false → old.is_gone ≡ true → new ≡ record old { polling = Forsaken }
-  pub seated : old.polling ≡ Registered → old.is_there ≡ false → old.is_gone ≡ false → new ≡ record old { seat = Some old.registered; polling = Waits }
+  pub found : old.polling ≡ Registered → old.is_there ≡ true
+      → new ≡ record old { is_there = rest; polling = Away }
+  pub forsaken : old.polling ≡ Registered → old.is_there ≡ false → old.is_gone ≡ true
+      → new ≡ record old { polling = Forsaken }
+  pub seated : old.polling ≡ Registered → old.is_there ≡ false → old.is_gone ≡ false
+      → new ≡ record old { seat = Some old.registered; polling = Waits }
   pub otherwise : (old.polling ≡ Registered → ⊥) → new ≡ old
 
 -- what is there is taken, and no poll waits
@@ -69,8 +85,10 @@ pub record Unseats (old new : Meeting) : Type 0 where
 
 -- the waker in its hand is called: the last one that was registered, or an older one
 pub record Calls (old new : Meeting) : Type 0 where
-  pub last : old.in_hand ≡ Some old.registered → new ≡ record old { in_hand = None; is_woken = true }
-  pub older : (waker : ℕ) → old.in_hand ≡ Some waker → (waker ≡ old.registered → ⊥) → new ≡ record old { in_hand = None }
+  pub last : old.in_hand ≡ Some old.registered
+      → new ≡ record old { in_hand = None; is_woken = true }
+  pub older : (waker : ℕ) → old.in_hand ≡ Some waker → (waker ≡ old.registered → ⊥)
+      → new ≡ record old { in_hand = None }
   pub otherwise : old.in_hand ≡ None → new ≡ old
 
 -- ---- any act

@@ -5,11 +5,13 @@ use Rattle.blocking_schedule.specs.declared.place.Place.{Place}
 use Rattle.blocking_schedule.specs.declared.counts.PoolCounts.{PoolCounts}
 use Rattle.blocking_schedule.specs.declared.schedule.Schedule.{Schedule}
 use Rattle.blocking_schedule.specs.Queues.{has_job}
-use Rattle.blocking_schedule.specs.Places.{sleepers, rings, alls, drops, holders, untold, lookers, turns, passes, arrivals}
+use Rattle.blocking_schedule.specs.Places.{sleepers, rings, alls, drops, holders, untold, lookers}
+use Rattle.blocking_schedule.specs.Places.{turns, passes, arrivals}
 
 -- The pool's numbers, beside the places of the threads.
 pub record IsCounted (threads : List Place) (pool : PoolCounts) : Type 0 where
-  -- the workers that aren't idle have a job in their hands, and the idle ones have a pass or haven't arrived
+  -- the workers that aren't idle have a job in their hands, and the idle ones have a pass or
+  -- haven't arrived
   pub workers : pool.workers ≡ pool.idle + turns threads
   pub idle : pool.idle ≡ passes threads + pool.arriving
   pub arriving : pool.arriving ≡ arrivals threads
@@ -18,7 +20,8 @@ pub record IsCounted (threads : List Place) (pool : PoolCounts) : Type 0 where
   pub unset : pool.is_limit_set ≡ false → pool.workers ≡ 0
 
 -- The lock, and what stands beside it.
-pub record IsGuarded (threads : List Place) (pool : PoolCounts) (is_locked is_manned is_queued : Bool) : Type 0 where
+pub record IsGuarded (threads : List Place) (pool : PoolCounts)
+    (is_locked is_manned is_queued : Bool) : Type 0 where
   -- who has the lock has it alone
   pub locked : holders threads ≡ one_if is_locked
   -- where the post is manned a worker looks that may be claimed
@@ -28,13 +31,15 @@ pub record IsGuarded (threads : List Place) (pool : PoolCounts) (is_locked is_ma
 
 -- Who sleeps, while no ring of all is under way.
 pub record IsServed (threads : List Place) (pool : PoolCounts) : Type 0 where
-  -- each job that was rung for has a ring or a worker that it chose, or one that drops a swept job and takes then; and so have
-  -- all swept jobs together
-  pub served : 0 < sleepers threads → alls threads ≡ 0 → pool.rung + min 1 pool.swept ≤ rings threads + drops threads
+  -- each job that was rung for has a ring or a worker that it chose, or one that drops a swept job
+  -- and takes then; and so have all swept jobs together
+  pub served : 0 < sleepers threads → alls threads ≡ 0
+      → pool.rung + min 1 pool.swept ≤ rings threads + drops threads
   -- nobody sleeps over the limit
   pub within : 0 < sleepers threads → alls threads ≡ 0 → pool.workers ≤ pool.limit
 
-pub record IsKept (threads : List Place) (pool : PoolCounts) (is_locked is_manned is_queued : Bool) : Type 0 where
+pub record IsKept (threads : List Place) (pool : PoolCounts)
+    (is_locked is_manned is_queued : Bool) : Type 0 where
   pub counted : IsCounted threads pool
   pub guarded : IsGuarded threads pool is_locked is_manned is_queued
   pub served : IsServed threads pool

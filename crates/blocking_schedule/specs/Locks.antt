@@ -1,11 +1,14 @@
 -- Which locks there are, who has one, and who waits for one.
 use Rattle.std.specs.Prelude.{Option, Some, None}
 use Rattle.blocking_schedule.specs.declared.place.Place.{Place}
-use Rattle.blocking_schedule.specs.declared.place.Place.TheVariants.{Waited, HasSwept, Passing, Called, Claimed, Told}
+use Rattle.blocking_schedule.specs.declared.place.Place.TheVariants.{Waited, HasSwept, Passing}
+use Rattle.blocking_schedule.specs.declared.place.Place.TheVariants.{Called, Claimed, Told}
 use Rattle.blocking_schedule.specs.declared.step.Lock.{Lock}
 use Rattle.blocking_schedule.specs.declared.step.Lock.TheVariants.{Pool, Desk}
 use Rattle.blocking_schedule.specs.declared.step.Step.{Step}
-use Rattle.blocking_schedule.specs.declared.step.Step.TheVariants.{Add, Wake, Sweep, SetLimit, Nothing, Arrive, End, GoOn, Wait, Return, Start, Refuse}
+use Rattle.blocking_schedule.specs.declared.step.Step.TheVariants.{Add, Wake, Sweep, SetLimit}
+use Rattle.blocking_schedule.specs.declared.step.Step.TheVariants.{Nothing, Arrive, End, GoOn, Wait}
+use Rattle.blocking_schedule.specs.declared.step.Step.TheVariants.{Return, Start, Refuse}
 
 -- the lock that a thread has there
 abbrev pub lock_of : Place → Option Lock

@@ -1,10 +1,15 @@
 -- What each place counts for. Each sum below is a number of threads.
-use Rattle.std.specs.Prelude.{ℕ, ◌+◌, Bool, true, false, if◌then◌else◌, List, Option, Some, None, sum_by}
+use Rattle.std.specs.Prelude.{ℕ, ◌+◌, Bool, true, false, if◌then◌else◌, List, Option, Some, None}
+use Rattle.std.specs.Prelude.{sum_by}
 use Rattle.blocking_pool.specs.Jobs.{one_if}
 use Rattle.blocking_pool.specs.declared.pool.bell.BellKind.{BellKind}
 use Rattle.blocking_pool.specs.declared.pool.bell.BellKind.TheVariants as bell
 use Rattle.blocking_schedule.specs.declared.place.Place.{Place}
-use Rattle.blocking_schedule.specs.declared.place.Place.TheVariants.{Outside, Started, Turn, Free, Looking, Looked, Sleeping, Woken, Waited, HasSwept, Passing, Called, Claimed, Told, Ringing, Stopped}
+use Rattle.blocking_schedule.specs.declared.place.Place.TheVariants.{Outside, Started, Turn, Free}
+use Rattle.blocking_schedule.specs.declared.place.Place.TheVariants.{Looking, Looked, Sleeping}
+use Rattle.blocking_schedule.specs.declared.place.Place.TheVariants.{Woken, Waited, HasSwept}
+use Rattle.blocking_schedule.specs.declared.place.Place.TheVariants.{Passing, Called, Claimed, Told}
+use Rattle.blocking_schedule.specs.declared.place.Place.TheVariants.{Ringing, Stopped}
 use Rattle.blocking_schedule.specs.declared.place.Next.{Next}
 use Rattle.blocking_schedule.specs.declared.place.Next.TheVariants as next
 use Rattle.blocking_schedule.specs.declared.place.Origin.{Origin}
@@ -93,7 +98,8 @@ abbrev pub sleep_at : Place → ℕ
 sleep_at Sleeping = 1
 sleep_at _ = 0
 
--- a ring of one that is under way, or a worker that it chose and that takes the lock, or has it and takes
+-- a ring of one that is under way, or a worker that it chose and that takes the lock, or has it and
+-- takes
 abbrev pub ring_at : Place → ℕ
 ring_at (Looking claimed) = one_if claimed
 ring_at (Looked claimed) = one_if claimed

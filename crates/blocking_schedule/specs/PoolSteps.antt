@@ -1,12 +1,16 @@
--- What the steps do to the pool's numbers, in the pool's own words (`blocking_pool/specs/Counts` and `Growth`).
-use Rattle.std.specs.Prelude.{◌≡◌, ℕ, Bool, true, false, ◌⊎◌, if◌then◌else◌, List, Option, Some, None, is_some, slice_get}
+-- What the steps do to the pool's numbers, in the pool's own words (`blocking_pool/specs/Counts`
+-- and `Growth`).
+use Rattle.std.specs.Prelude.{◌≡◌, ℕ, Bool, true, false, ◌⊎◌, if◌then◌else◌, List, Option, Some}
+use Rattle.std.specs.Prelude.{None, is_some, slice_get}
 use Rattle.blocking_pool.specs.declared.pool.bell.BellKind.{BellKind}
 use Rattle.blocking_pool.specs.declared.pool.bell.BellKind.TheVariants.{Silent, One}
-use Rattle.blocking_pool.specs.Counts.{Counts, limit_of, after_ring, after_limit, after_release, after_pickup, after_stop}
+use Rattle.blocking_pool.specs.Counts.{Counts, limit_of, after_ring, after_limit, after_release}
+use Rattle.blocking_pool.specs.Counts.{after_pickup, after_stop}
 use Rattle.blocking_pool.specs.Growth.{after_growth}
 use Rattle.blocking_schedule.specs.declared.place.Origin.{Origin}
 use Rattle.blocking_schedule.specs.declared.place.Place.{Place}
-use Rattle.blocking_schedule.specs.declared.place.Place.TheVariants.{HasSwept, Passing, Called, Claimed, Told, Ringing}
+use Rattle.blocking_schedule.specs.declared.place.Place.TheVariants.{HasSwept, Passing, Called}
+use Rattle.blocking_schedule.specs.declared.place.Place.TheVariants.{Claimed, Told, Ringing}
 use Rattle.blocking_schedule.specs.declared.counts.PoolCounts.{PoolCounts}
 use Rattle.blocking_schedule.specs.declared.schedule.Schedule.{Schedule}
 
@@ -37,7 +41,8 @@ counts_of pool bell =
       bell = bell;
     }
 
--- the numbers, the limit that a growth goes by, whether one stands, and the bell are those of these counts
+-- the numbers, the limit that a growth goes by, whether one stands, and the bell are those of these
+-- counts
 pub record Agree (pool : PoolCounts) (rung : BellKind) (counts : Counts) : Type 0 where
   pub workers : pool.workers ≡ counts.workers
   pub idle : pool.idle ≡ counts.idle
@@ -47,12 +52,16 @@ pub record Agree (pool : PoolCounts) (rung : BellKind) (counts : Counts) : Type 
   pub bell : rung ≡ counts.bell
 
 -- The step changes nothing, or the counts as a call of the pool does and the queue so.
-abbrev pub ChangesBy : (Counts → Counts) → (PoolCounts → PoolCounts → Type 0) → ℕ → List Place → PoolCounts → List Place → PoolCounts → Type 0
+abbrev pub ChangesBy : (Counts → Counts) → (PoolCounts → PoolCounts → Type 0) → ℕ → List Place
+    → PoolCounts → List Place → PoolCounts → Type 0
 ChangesBy change queue who old pool new after =
-    ((new ≡ old) × (after ≡ pool)) ⊎ (Agree after (bell_of (slice_get new who)) (change (counts_of pool (bell_of (slice_get old who)))) × queue pool after)
+    ((new ≡ old) × (after ≡ pool)) ⊎ (Agree after (bell_of (slice_get new who))
+    (change (counts_of pool (bell_of (slice_get old who)))) × queue pool after)
 
-abbrev pub Changes : (Counts → Counts) → (PoolCounts → PoolCounts → Type 0) → ℕ → Schedule → Schedule → Type 0
-Changes change queue who old new = ChangesBy change queue who old.threads.items old.pool new.threads.items new.pool
+abbrev pub Changes : (Counts → Counts) → (PoolCounts → PoolCounts → Type 0) → ℕ → Schedule
+    → Schedule → Type 0
+Changes change queue who old new =
+    ChangesBy change queue who old.threads.items old.pool new.threads.items new.pool
 
 -- whom a new limit rings
 abbrev pub bell_of_limit : ℕ → PoolCounts → BellKind

@@ -1,5 +1,6 @@
 -- The queue, by how its jobs came into it.
-use Rattle.std.specs.Prelude.{◌≡◌, ℕ, ◌+◌, ◌<◌, ◌≤◌, ◌==◌, ◌&&◌, ◌||◌, not, min, nat_lt, if◌then◌else◌, ◌⊎◌, Bool, true, false, Option, Some, None}
+use Rattle.std.specs.Prelude.{◌≡◌, ℕ, ◌+◌, ◌<◌, ◌≤◌, ◌==◌, ◌&&◌, ◌||◌, not, min, nat_lt}
+use Rattle.std.specs.Prelude.{if◌then◌else◌, ◌⊎◌, Bool, true, false, Option, Some, None}
 use Rattle.blocking_pool.specs.declared.pool.bell.BellKind.{BellKind}
 use Rattle.blocking_pool.specs.declared.pool.bell.BellKind.TheVariants.{Silent, One, All}
 use Rattle.blocking_schedule.specs.declared.counts.PoolCounts.{PoolCounts}
@@ -10,7 +11,8 @@ use Rattle.blocking_schedule.specs.declared.place.Origin.TheVariants.{Rung, Swep
 abbrev pub has_job : PoolCounts → Bool
 has_job pool = nat_lt 0 (pool.rung + pool.swept)
 
--- a worker that has waited must stop: there are more workers than the limit, or its time was up and no job is queued
+-- a worker that has waited must stop: there are more workers than the limit, or its time was up and
+-- no job is queued
 abbrev pub MustStop : Bool → PoolCounts → Type 0
 MustStop is_late pool = (pool.limit < pool.workers) ⊎ ((is_late ≡ true) × (has_job pool ≡ false))
 
@@ -66,7 +68,8 @@ other_than Swept = Rung
 
 -- the origin of the job that is taken: this one where there is such a job, else the other
 abbrev pub front_of : Origin → PoolCounts → Option Origin
-front_of wanted pool = if nat_lt 0 (jobs_of wanted pool) then Some wanted else if nat_lt 0 (jobs_of (other_than wanted) pool) then Some (other_than wanted) else None
+front_of wanted pool = if nat_lt 0 (jobs_of wanted pool) then Some wanted
+    else if nat_lt 0 (jobs_of (other_than wanted) pool) then Some (other_than wanted) else None
 
 -- the queue once this job is taken
 abbrev pub QueueWithout : Option Origin → PoolCounts → PoolCounts → Type 0

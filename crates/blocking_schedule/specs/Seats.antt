@@ -11,7 +11,8 @@ IsWoken m = (m.in_hand ≡ Some m.registered) ⊎ (m.is_woken ≡ true)
 abbrev pub IsSeatedOrWoken : Meeting → Type 0
 IsSeatedOrWoken m = (m.seat ≡ Some m.registered) ⊎ IsWoken m
 
--- An owner whose last poll was answered `Pending` is seated or woken; where something is there it is woken.
+-- An owner whose last poll was answered `Pending` is seated or woken; where something is there it
+-- is woken.
 pub record IsHeard (m : Meeting) : Type 0 where
   pub waits : m.polling ≡ Waits → IsSeatedOrWoken m
   pub there : m.polling ≡ Waits → m.is_there ≡ true → IsWoken m

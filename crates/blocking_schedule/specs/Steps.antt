@@ -1,5 +1,7 @@
--- What each step does: where it leads, how it changes the pool's numbers and the queue, and whether the post is manned then.
-use Rattle.std.specs.Prelude.{◌≡◌, ℕ, ◌+◌, ◌<◌, ◌≤◌, max, Bool, true, false, if◌then◌else◌, List, ◌++◌, map, replicate, set, Option, Some, None, slice_get}
+-- What each step does: where it leads, how it changes the pool's numbers and the queue, and whether
+-- the post is manned then.
+use Rattle.std.specs.Prelude.{◌≡◌, ℕ, ◌+◌, ◌<◌, ◌≤◌, max, Bool, true, false, if◌then◌else◌, List}
+use Rattle.std.specs.Prelude.{◌++◌, map, replicate, set, Option, Some, None, slice_get}
 use Rattle.blocking_pool.specs.Jobs.{one_if}
 use Rattle.blocking_pool.specs.Counts.{after_ring, after_limit, after_arrival}
 use Rattle.blocking_pool.specs.Growth.{greatest}
@@ -18,19 +20,32 @@ use Rattle.blocking_schedule.specs.declared.step.Step.{Step}
 use Rattle.blocking_schedule.specs.declared.step.Step.TheVariants as step
 use Rattle.blocking_schedule.specs.declared.step.Lock.TheVariants.{Pool}
 use Rattle.blocking_schedule.specs.Locks.{lock_wanted}
-use Rattle.blocking_schedule.specs.Places.{bell_of_stop, is_late, is_rung, late_of, next_with, place_of, sleepers, waking_of, was_swept, woken_from}
-use Rattle.blocking_schedule.specs.PoolSteps.{Changes, after_decision, after_end, after_refusal, after_start, after_taking, bell_of_limit}
-use Rattle.blocking_schedule.specs.Queues.{QueueGrows, QueueStays, QueueWithout, WereSwept, front_of, has_job, must_stop}
+use Rattle.blocking_schedule.specs.Places.{bell_of_stop, is_late, is_rung, late_of, next_with}
+use Rattle.blocking_schedule.specs.Places.{place_of, sleepers, waking_of, was_swept, woken_from}
+use Rattle.blocking_schedule.specs.PoolSteps.{Changes, after_decision, after_end, after_refusal}
+use Rattle.blocking_schedule.specs.PoolSteps.{after_start, after_taking, bell_of_limit}
+use Rattle.blocking_schedule.specs.Queues.{QueueGrows, QueueStays, QueueWithout, WereSwept}
+use Rattle.blocking_schedule.specs.Queues.{front_of, has_job, must_stop}
 use Rattle.blocking_schedule.specs.Readings.{ClaimsOne, SleepsBesideNoJob, StopsByRule}
 use Rattle.blocking_schedule.specs.Sequences.{InTurn}
-use Rattle.blocking_schedule.specs.Ways.{IsAt, KeepsPool, KeepsPost, Leads, LeadsBoth, LeadsIfFree, StandsIfLocked}
+use Rattle.blocking_schedule.specs.Ways.{IsAt, KeepsPool, KeepsPost, Leads, LeadsBoth, LeadsIfFree}
+use Rattle.blocking_schedule.specs.Ways.{StandsIfLocked}
 
 -- ---- how a machine begins
 
--- so many callers and so many threads that may be started, and a pool with this limit by its setting: no worker yet, and no job
+-- so many callers and so many threads that may be started, and a pool with this limit by its
+-- setting: no worker yet, and no job
 pub record Begins (callers spares limit : ℕ) (s : Schedule) : Type 0 where
   pub threads : s.threads.items ≡ replicate callers place.Outside ++ replicate spares place.Spare
-  pub pool : s.pool ≡ record { workers = 0; idle = 0; arriving = 0; limit = limit; is_limit_set = false; rung = 0; swept = 0 }
+  pub pool : s.pool ≡ record {
+    workers = 0;
+    idle = 0;
+    arriving = 0;
+    limit = limit;
+    is_limit_set = false;
+    rung = 0;
+    swept = 0;
+  }
   pub free : s.is_locked ≡ false
   pub unmanned : s.is_manned ≡ false
 
@@ -38,7 +53,8 @@ pub record Begins (callers spares limit : ℕ) (s : Schedule) : Type 0 where
 
 -- one more job is queued, by itself, and one is to be rung
 pub record Adds (who : ℕ) (old new : Schedule) : Type 0 where
-  pub leads : old.pool.rung < greatest → LeadsIfFree who place.Outside (place.Called One Return) old new
+  pub leads : old.pool.rung < greatest
+      → LeadsIfFree who place.Outside (place.Called One Return) old new
   pub pool : Changes (after_ring One) (QueueGrows 1 0) who old new
   pub post : KeepsPost old new
   pub waits : StandsIfLocked old new
@@ -49,14 +65,16 @@ HasRoom count pool = pool.rung + pool.swept + count ≤ greatest
 
 -- so many jobs are put back, and one is to be rung; none are where none are found
 pub record Sweeps (who count : ℕ) (old new : Schedule) : Type 0 where
-  pub leads : 0 < count → HasRoom count old.pool → LeadsIfFree who place.Outside (place.Called One Return) old new
+  pub leads : 0 < count → HasRoom count old.pool
+      → LeadsIfFree who place.Outside (place.Called One Return) old new
   pub pool : Changes (after_ring One) (WereSwept count) who old new
   pub post : KeepsPost old new
   pub waits : StandsIfLocked old new
 
 -- the limit is this one, and all are to be rung where a greater one stood
 pub record SetsLimit (who limit : ℕ) (old new : Schedule) : Type 0 where
-  pub leads : 0 < limit → LeadsIfFree who place.Outside (place.Called (bell_of_limit limit old.pool) Return) old new
+  pub leads : 0 < limit
+      → LeadsIfFree who place.Outside (place.Called (bell_of_limit limit old.pool) Return) old new
   pub pool : Changes (after_limit limit) QueueStays who old new
   pub post : KeepsPost old new
   pub waits : StandsIfLocked old new
@@ -77,16 +95,19 @@ pub record Arrives (who : ℕ) (old new : Schedule) : Type 0 where
   pub post : KeepsPost old new
   pub waits : StandsIfLocked old new
 
--- One more is idle, and takes next. Its job is queued again where a wake met it, and one is to be rung.
+-- One more is idle, and takes next. Its job is queued again where a wake met it, and one is to be
+-- rung.
 pub record Ends (who : ℕ) (was_woken : Bool) (old new : Schedule) : Type 0 where
-  pub leads : (origin : Origin) → old.pool.rung < greatest → LeadsIfFree who (place.Turn origin) (place.Passing (was_swept origin) (if was_woken then One else Silent)) old new
+  pub leads : (origin : Origin) → old.pool.rung < greatest → LeadsIfFree who (place.Turn origin)
+      (place.Passing (was_swept origin) (if was_woken then One else Silent)) old new
   pub pool : Changes (after_end was_woken) (QueueGrows (one_if was_woken) 0) who old new
   pub post : KeepsPost old new
   pub waits : StandsIfLocked old new
 
 -- the turn goes on after its section
 pub record GoesOn (who : ℕ) (old new : Schedule) : Type 0 where
-  pub leads : (origin : Origin) → LeadsIfFree who (place.Turn origin) (place.Called Silent (Turn origin)) old new
+  pub leads : (origin : Origin)
+      → LeadsIfFree who (place.Turn origin) (place.Called Silent (Turn origin)) old new
   pub pool : KeepsPool old new
   pub post : KeepsPost old new
   pub waits : StandsIfLocked old new
@@ -106,26 +127,35 @@ pub record EndsLook (who : ℕ) (old new : Schedule) : Type 0 where
   pub pool : KeepsPool old new
   pub post : (claimed : Bool) → IsAt who (place.Looking claimed) old → new.is_manned ≡ false
 
--- a ring of one that meets a manned post claims the worker that looks, and no other thread; nobody is to be rung any more
+-- a ring of one that meets a manned post claims the worker that looks, and no other thread; nobody
+-- is to be rung any more
 pub record ClaimsLooker (who looker : ℕ) (old new : Schedule) : Type 0 where
-  pub leads : (next : Next) → LeadsBoth looker (place.Looking false) (place.Looking true) who (place.Called One next) (place.Claimed Silent next) old new
-  pub leaves : (next : Next) → IsAt looker (place.Looking false) old → IsAt who (place.Called One next) old → new.is_manned ≡ false
-  pub others : (next : Next) → (IsAt looker (place.Looking false) old → ⊥) → IsAt who (place.Called One next) old → new ≡ old
+  pub leads : (next : Next) → LeadsBoth looker (place.Looking false) (place.Looking true) who
+      (place.Called One next) (place.Claimed Silent next) old new
+  pub leaves : (next : Next) → IsAt looker (place.Looking false) old
+      → IsAt who (place.Called One next) old → new.is_manned ≡ false
+  pub others : (next : Next) → (IsAt looker (place.Looking false) old → ⊥)
+      → IsAt who (place.Called One next) old → new ≡ old
 
 -- Where the post is manned a ring of one claims that worker; else there is no claim.
 pub record Claims (who looker : ℕ) (old new : Schedule) : Type 0 where
-  pub unmanned : (bell : BellKind) (next : Next) → old.is_manned ≡ false → Leads who (place.Called bell next) (place.Claimed bell next) old new
-  pub silent : (next : Next) → Leads who (place.Called Silent next) (place.Claimed Silent next) old new
+  pub unmanned : (bell : BellKind) (next : Next) → old.is_manned ≡ false
+      → Leads who (place.Called bell next) (place.Claimed bell next) old new
+  pub silent : (next : Next)
+      → Leads who (place.Called Silent next) (place.Claimed Silent next) old new
   pub all : (next : Next) → Leads who (place.Called All next) (place.Claimed All next) old new
   pub claims : old.is_manned ≡ true → ClaimsLooker who looker old new
-  pub one : new.is_manned ≡ false → old.is_manned ≡ true → ClaimsOne old.threads.items new.threads.items
+  pub one : new.is_manned ≡ false → old.is_manned ≡ true
+      → ClaimsOne old.threads.items new.threads.items
   pub pool : KeepsPool old new
   pub post : old.is_manned ≡ false → new.is_manned ≡ false
 
 -- whoever looks is told whether a job is queued
 pub record Tells (who : ℕ) (old new : Schedule) : Type 0 where
-  pub leads : (bell : BellKind) (next : Next) → Leads who (place.Claimed bell next) (place.Told bell next) old new
-  pub tells : (bell : BellKind) (next : Next) → IsAt who (place.Claimed bell next) old → new.is_queued ≡ has_job old.pool
+  pub leads : (bell : BellKind) (next : Next)
+      → Leads who (place.Claimed bell next) (place.Told bell next) old new
+  pub tells : (bell : BellKind) (next : Next) → IsAt who (place.Claimed bell next) old
+      → new.is_queued ≡ has_job old.pool
   pub pool : KeepsPool old new
   pub post : KeepsPost old new
 
@@ -133,9 +163,12 @@ pub record Tells (who : ℕ) (old new : Schedule) : Type 0 where
 
 -- it sleeps where no job is queued and it need not stop, and else it has the lock
 pub record Waits (who : ℕ) (old new : Schedule) : Type 0 where
-  pub leads : (claimed : Bool) → has_job old.pool ≡ false → old.pool.workers ≤ old.pool.limit → LeadsIfFree who (place.Looked claimed) place.Sleeping old new
-  pub queued : (claimed : Bool) → has_job old.pool ≡ true → LeadsIfFree who (place.Looked claimed) (place.Waited (waking_of claimed)) old new
-  pub over : (claimed : Bool) → old.pool.limit < old.pool.workers → LeadsIfFree who (place.Looked claimed) (place.Waited (waking_of claimed)) old new
+  pub leads : (claimed : Bool) → has_job old.pool ≡ false → old.pool.workers ≤ old.pool.limit
+      → LeadsIfFree who (place.Looked claimed) place.Sleeping old new
+  pub queued : (claimed : Bool) → has_job old.pool ≡ true
+      → LeadsIfFree who (place.Looked claimed) (place.Waited (waking_of claimed)) old new
+  pub over : (claimed : Bool) → old.pool.limit < old.pool.workers
+      → LeadsIfFree who (place.Looked claimed) (place.Waited (waking_of claimed)) old new
   pub sleeps : SleepsBesideNoJob old.threads.items old.pool new.threads.items
   pub pool : KeepsPool old new
   pub post : KeepsPost old new
@@ -169,42 +202,53 @@ pub record Returns (who : ℕ) (old new : Schedule) : Type 0 where
 
 -- one whose time was up puts so many jobs back, and one is to be rung; another puts none back
 pub record SweepsLate (who count : ℕ) (old new : Schedule) : Type 0 where
-  pub leads : (why : Waking) → is_late why ≡ true → 0 < count → HasRoom count old.pool → Leads who (place.Waited why) (place.HasSwept (is_rung why)) old new
+  pub leads : (why : Waking) → is_late why ≡ true → 0 < count → HasRoom count old.pool
+      → Leads who (place.Waited why) (place.HasSwept (is_rung why)) old new
   pub early : (why : Waking) → is_late why ≡ false → IsAt who (place.Waited why) old → new ≡ old
   pub pool : Changes (after_ring One) (WereSwept count) who old new
   pub post : KeepsPost old new
 
--- A worker that waited stays, or stops where it must by the pool's rule: whether its time was up, and whom it rings if it stays or stops.
-pub record Decides (who : ℕ) (late : Bool) (from staying stopping : Place) (old new : Schedule) : Type 0 where
+-- A worker that waited stays, or stops where it must by the pool's rule: whether its time was up,
+-- and whom it rings if it stays or stops.
+pub record Decides (who : ℕ) (late : Bool) (from staying stopping : Place) (old new : Schedule) :
+    Type 0 where
   pub stays : must_stop late old.pool ≡ false → Leads who from staying old new
   pub stops : must_stop late old.pool ≡ true → Leads who from stopping old new
-  pub rule : new.pool.workers < old.pool.workers → StopsByRule late old.pool who new.threads.items new.pool
-  pub pool : Changes (after_decision (must_stop late old.pool) (has_job old.pool)) QueueStays who old new
+  pub rule : new.pool.workers < old.pool.workers
+      → StopsByRule late old.pool who new.threads.items new.pool
+  pub pool : Changes (after_decision (must_stop late old.pool) (has_job old.pool)) QueueStays who
+      old new
   pub post : KeepsPost old new
 
 abbrev pub DecidesUnswept : ℕ → Waking → Schedule → Schedule → Type 0
 DecidesUnswept who why old new =
-    Decides who (is_late why) (place.Waited why) (place.Passing (is_rung why) Silent) (place.Called (bell_of_stop (has_job old.pool)) Stop) old new
+    Decides who (is_late why) (place.Waited why) (place.Passing (is_rung why) Silent)
+    (place.Called (bell_of_stop (has_job old.pool)) Stop) old new
 
 -- one that has swept was late, and rings one in any case
 abbrev pub DecidesSwept : ℕ → Bool → Schedule → Schedule → Type 0
-DecidesSwept who chosen old new = Decides who true (place.HasSwept chosen) (place.Passing chosen One) (place.Called One Stop) old new
+DecidesSwept who chosen old new = Decides who true (place.HasSwept chosen)
+    (place.Passing chosen One) (place.Called One Stop) old new
 
 pub record StaysOrStops (who : ℕ) (old new : Schedule) : Type 0 where
   pub unswept : (why : Waking) → IsAt who (place.Waited why) old → DecidesUnswept who why old new
-  pub swept : (chosen : Bool) → IsAt who (place.HasSwept chosen) old → DecidesSwept who chosen old new
+  pub swept : (chosen : Bool) → IsAt who (place.HasSwept chosen) old
+      → DecidesSwept who chosen old new
 
 -- it takes the first job, or is free where none is queued
 pub record TakesJob (who : ℕ) (wanted : Origin) (old new : Schedule) : Type 0 where
-  pub leads : (chosen : Bool) (bell : BellKind) → Leads who (place.Passing chosen bell) (place.Called bell (next_with (front_of wanted old.pool))) old new
-  pub pool : Changes (after_taking (front_of wanted old.pool)) (QueueWithout (front_of wanted old.pool)) who old new
+  pub leads : (chosen : Bool) (bell : BellKind) → Leads who (place.Passing chosen bell)
+      (place.Called bell (next_with (front_of wanted old.pool))) old new
+  pub pool : Changes (after_taking (front_of wanted old.pool))
+      (QueueWithout (front_of wanted old.pool)) who old new
   pub post : KeepsPost old new
 
 -- ---- growth
 
 -- a spare thread is started below the limit, and all are to be rung
 pub record Starts (who spare : ℕ) (old new : Schedule) : Type 0 where
-  pub leads : (bell : BellKind) (next : Next) → old.pool.workers < old.pool.limit → LeadsBoth spare place.Spare place.Started who (place.Called bell next) (place.Called All next) old new
+  pub leads : (bell : BellKind) (next : Next) → old.pool.workers < old.pool.limit → LeadsBoth spare
+      place.Spare place.Started who (place.Called bell next) (place.Called All next) old new
   pub full : old.pool.limit ≤ old.pool.workers → new ≡ old
   pub others : (IsAt spare place.Spare old → ⊥) → new ≡ old
   pub pool : Changes after_start QueueStays who old new
@@ -212,8 +256,10 @@ pub record Starts (who spare : ℕ) (old new : Schedule) : Type 0 where
 
 -- the limit is lowered to the workers
 pub record Refuses (who : ℕ) (old new : Schedule) : Type 0 where
-  pub lowers : (bell : BellKind) (next : Next) → old.pool.workers < old.pool.limit → IsAt who (place.Called bell next) old → new.pool.limit ≡ max 1 old.pool.workers
-  pub stands : (bell : BellKind) (next : Next) → old.pool.workers < old.pool.limit → IsAt who (place.Called bell next) old → new.pool.is_limit_set ≡ true
+  pub lowers : (bell : BellKind) (next : Next) → old.pool.workers < old.pool.limit
+      → IsAt who (place.Called bell next) old → new.pool.limit ≡ max 1 old.pool.workers
+  pub stands : (bell : BellKind) (next : Next) → old.pool.workers < old.pool.limit
+      → IsAt who (place.Called bell next) old → new.pool.is_limit_set ≡ true
   pub full : old.pool.limit ≤ old.pool.workers → new ≡ old
   pub stays : new.threads.items ≡ old.threads.items
   pub pool : Changes after_refusal QueueStays who old new
@@ -223,19 +269,24 @@ pub record Refuses (who : ℕ) (old new : Schedule) : Type 0 where
 
 -- the lock is let go
 pub record LetsGo (who : ℕ) (old new : Schedule) : Type 0 where
-  pub leads : (bell : BellKind) (next : Next) → Leads who (place.Told bell next) (place.Ringing bell next) old new
+  pub leads : (bell : BellKind) (next : Next)
+      → Leads who (place.Told bell next) (place.Ringing bell next) old new
   pub pool : KeepsPool old new
   pub post : KeepsPost old new
 
 -- one of those that sleep is woken, the one that is named; the ring is lost where nobody sleeps
 pub record RingsOne (who woken : ℕ) (old new : Schedule) : Type 0 where
-  pub leads : (next : Next) → LeadsBoth woken place.Sleeping (place.Woken waking.Rung) who (place.Ringing One next) (place_of next) old new
-  pub lost : (next : Next) → sleepers old.threads.items ≡ 0 → Leads who (place.Ringing One next) (place_of next) old new
-  pub others : (next : Next) → 0 < sleepers old.threads.items → (IsAt woken place.Sleeping old → ⊥) → IsAt who (place.Ringing One next) old → new ≡ old
+  pub leads : (next : Next) → LeadsBoth woken place.Sleeping (place.Woken waking.Rung) who
+      (place.Ringing One next) (place_of next) old new
+  pub lost : (next : Next) → sleepers old.threads.items ≡ 0
+      → Leads who (place.Ringing One next) (place_of next) old new
+  pub others : (next : Next) → 0 < sleepers old.threads.items → (IsAt woken place.Sleeping old → ⊥)
+      → IsAt who (place.Ringing One next) old → new ≡ old
 
 -- all that sleep are woken
 abbrev pub RingsAll : ℕ → Schedule → Schedule → Type 0
-RingsAll who old new = (next : Next) → IsAt who (place.Ringing All next) old → new.threads.items ≡ set (map woken_from old.threads.items) who (place_of next)
+RingsAll who old new = (next : Next) → IsAt who (place.Ringing All next) old
+    → new.threads.items ≡ set (map woken_from old.threads.items) who (place_of next)
 
 pub record Rings (who woken : ℕ) (old new : Schedule) : Type 0 where
   pub silent : (next : Next) → Leads who (place.Ringing Silent next) (place_of next) old new
@@ -332,10 +383,11 @@ abbrev pub is_there : Step → Option Place → Bool
 is_there taken None = false
 is_there taken (Some at) = is_place_of taken at
 
--- The machine takes the step where its thread is at its place, and else nothing is changed; nor is it where the step wants the pool's lock
--- while a thread has it.
+-- The machine takes the step where its thread is at its place, and else nothing is changed; nor is
+-- it where the step wants the pool's lock while a thread has it.
 pub record Steps (old : Schedule) (taken : Step) (new : Schedule) : Type 0 where
-  pub takes : is_there taken (slice_get old.threads.items (thread_of taken)) ≡ true → Takes old taken new
+  pub takes : is_there taken (slice_get old.threads.items (thread_of taken)) ≡ true
+      → Takes old taken new
   pub stands : is_there taken (slice_get old.threads.items (thread_of taken)) ≡ false → new ≡ old
   pub waits : lock_wanted taken ≡ Some Pool → old.is_locked ≡ true → new ≡ old
 

@@ -1,5 +1,7 @@
--- What each step of a ring's two sides does: what it changes where its side is ready for it; elsewhere it changes nothing.
-use Rattle.std.specs.Prelude.{◌≡◌, ◌≢◌, ℕ, ◌+◌, ◌<◌, ◌⊎◌, Bool, true, false, not, nat_eq, Option, Some, None, List, [], ◌∷◌}
+-- What each step of a ring's two sides does: what it changes where its side is ready for it;
+-- elsewhere it changes nothing.
+use Rattle.std.specs.Prelude.{◌≡◌, ◌≢◌, ℕ, ◌+◌, ◌<◌, ◌⊎◌, Bool, true, false, not, nat_eq, Option}
+use Rattle.std.specs.Prelude.{Some, None, List, [], ◌∷◌}
 use Rattle.blocking_pool.specs.Growth.{greatest}
 use Rattle.blocking_schedule.specs.declared.stream.Ring.{Ring}
 use Rattle.blocking_schedule.specs.declared.stream.JobPlace.{JobPlace}
@@ -17,7 +19,8 @@ Only ready old new after = (ready → new ≡ after) × ((ready → ⊥) → new
 
 -- where its side is ready, it does the one or the other by what is so, and else nothing
 abbrev pub ByThis : Type 0 → Bool → Ring → Ring → Ring → Ring → Type 0
-ByThis ready is_so old new one other = (ready → is_so ≡ true → new ≡ one) × (ready → is_so ≡ false → new ≡ other) × ((ready → ⊥) → new ≡ old)
+ByThis ready is_so old new one other = (ready → is_so ≡ true → new ≡ one)
+    × (ready → is_so ≡ false → new ≡ other) × ((ready → ⊥) → new ≡ old)
 
 -- the job is in no call, and its end is open
 abbrev pub JobIsFree : Ring → Type 0
@@ -25,16 +28,23 @@ JobIsFree r = (r.job ≡ job.Away) × (r.closed ≡ 0) × (r.is_job_to_rise ≡ 
 
 -- the owner is in no call, and its end is open
 abbrev pub OwnerIsFree : Ring → Type 0
-OwnerIsFree r = ((r.owner ≡ owner.Away) ⊎ (r.owner ≡ owner.Waits)) × (r.is_owner_shut ≡ false) × (r.is_owner_to_rise ≡ false)
+OwnerIsFree r = ((r.owner ≡ owner.Away) ⊎ (r.owner ≡ owner.Waits)) × (r.is_owner_shut ≡ false)
+    × (r.is_owner_to_rise ≡ false)
 
 -- The job's steps.
 abbrev pub SeesOwnerShut : Ring → Ring → Type 0
 SeesOwnerShut old new = ByThis (JobIsFree old) old.is_owner_shut old new
     (record old { send_answer = sending.Shut })
-    (record old { could_send = has_room old; could_park = false; send_answer = sending.Open; job = job.SawOpen })
+    (record old {
+      could_send = has_room old;
+      could_park = false;
+      send_answer = sending.Open;
+      job = job.SawOpen;
+    })
 
 abbrev pub Pushes : Ring → Ring → Type 0
-Pushes old new = Only ((old.job ≡ job.SawOpen) × (has_room old ≡ true) × (old.pushed < greatest)) old new
+Pushes old new =
+    Only ((old.job ≡ job.SawOpen) × (has_room old ≡ true) × (old.pushed < greatest)) old new
     (record old { pushed = old.pushed + 1; send_answer = sending.Sent; job = job.Wrote })
 
 abbrev pub SeesOwnerWaits : Ring → Ring → Type 0
@@ -52,8 +62,10 @@ TakesOwner old new = Only (old.job ≡ job.SawOwnerWait) old new
     (record old { owner_waits = false; owner_seat = None; job = with_waker old.owner_seat })
 
 pub record CallsOwner (old new : Ring) : Type 0 where
-  pub last : old.job ≡ job.HasWaker old.registered → new ≡ record old { is_owner_woken = true; job = job.Away }
-  pub older : (waker : ℕ) → old.job ≡ job.HasWaker waker → waker ≢ old.registered → new ≡ record old { job = job.Away }
+  pub last : old.job ≡ job.HasWaker old.registered
+      → new ≡ record old { is_owner_woken = true; job = job.Away }
+  pub older : (waker : ℕ) → old.job ≡ job.HasWaker waker → waker ≢ old.registered
+      → new ≡ record old { job = job.Away }
   pub none : ((waker : ℕ) → old.job ≢ job.HasWaker waker) → new ≡ old
 
 abbrev pub SeatsJob : Ring → Ring → Type 0
@@ -79,7 +91,8 @@ ClosesJob old new = Only (JobIsFree old × (old.pushed < greatest)) old new
     (record old { closed = old.pushed + 1; job = job.Wrote })
 
 abbrev pub RunsAgain : Ring → Ring → Type 0
-RunsAgain old new = Only (old.job ≡ job.Parked) old new (record old { is_job_woken = false; job = job.Away })
+RunsAgain old new =
+    Only (old.job ≡ job.Parked) old new (record old { is_job_woken = false; job = job.Away })
 
 -- The owner's steps.
 abbrev pub PollsAgain : Ring → Ring → Type 0
@@ -92,7 +105,12 @@ MayPop r = (r.owner ≡ owner.Looking) ⊎ ((r.owner ≡ owner.FoundEmpty) ⊎ (
 
 -- the first item is taken
 abbrev pub after_first : Ring → Ring
-after_first r = record r { receive_answer = receiving.Item r.popped; popped = r.popped + 1; could_send = true; owner = owner.Wrote }
+after_first r = record r {
+  receive_answer = receiving.Item r.popped;
+  popped = r.popped + 1;
+  could_send = true;
+  owner = owner.Wrote;
+}
 
 abbrev pub Pops : Ring → Ring → Type 0
 Pops old new = ByThis (MayPop old) (nat_eq old.popped old.pushed) old new
@@ -110,13 +128,17 @@ TakesJob old new = ByThis (old.owner ≡ owner.SawJobWait) old.is_job_seated old
     (record old { job_waits = false; is_job_seated = false; owner = owner.Away })
 
 abbrev pub WakesJob : Ring → Ring → Type 0
-WakesJob old new = Only (old.owner ≡ owner.HasNote) old new (record old { is_job_woken = true; owner = owner.Away })
+WakesJob old new = Only (old.owner ≡ owner.HasNote) old new
+    (record old { is_job_woken = true; owner = owner.Away })
 
 -- an empty ring: nothing yet, the end, or more was sent before
 pub record SeesClosed (old new : Ring) : Type 0 where
-  pub nothing : old.owner ≡ owner.FoundEmpty → old.closed ≡ 0 → new ≡ record old { owner = owner.NothingYet }
-  pub ended : old.owner ≡ owner.FoundEmpty → old.closed ≡ old.popped + 1 → new ≡ record old { receive_answer = receiving.Ended; owner = owner.Away }
-  pub more : old.owner ≡ owner.FoundEmpty → old.closed ≢ 0 → old.closed ≢ old.popped + 1 → new ≡ record old { owner = owner.Looking }
+  pub nothing : old.owner ≡ owner.FoundEmpty → old.closed ≡ 0
+      → new ≡ record old { owner = owner.NothingYet }
+  pub ended : old.owner ≡ owner.FoundEmpty → old.closed ≡ old.popped + 1
+      → new ≡ record old { receive_answer = receiving.Ended; owner = owner.Away }
+  pub more : old.owner ≡ owner.FoundEmpty → old.closed ≢ 0 → old.closed ≢ old.popped + 1
+      → new ≡ record old { owner = owner.Looking }
   pub none : old.owner ≢ owner.FoundEmpty → new ≡ old
 
 abbrev pub TakesBackWaker : Ring → Ring → Type 0
@@ -139,10 +161,16 @@ LooksAgainForItem old new = ByThis (old.owner ≡ owner.Seated) (nat_eq old.popp
     (record (after_first old) { is_owner_to_rise = true })
 
 pub record LooksAgainForClosed (old new : Ring) : Type 0 where
-  pub nothing : old.owner ≡ owner.StillEmpty → old.closed ≡ 0 → new ≡ record old { receive_answer = receiving.Pending; owner = owner.Waits }
+  pub nothing : old.owner ≡ owner.StillEmpty → old.closed ≡ 0
+      → new ≡ record old { receive_answer = receiving.Pending; owner = owner.Waits }
   pub ended : old.owner ≡ owner.StillEmpty → old.closed ≡ old.popped + 1 →
-      new ≡ record old { receive_answer = receiving.Ended; is_owner_to_rise = true; owner = owner.Away }
-  pub more : old.owner ≡ owner.StillEmpty → old.closed ≢ 0 → old.closed ≢ old.popped + 1 → new ≡ record old { owner = owner.Seated }
+      new ≡ record old {
+        receive_answer = receiving.Ended;
+        is_owner_to_rise = true;
+        owner = owner.Away;
+      }
+  pub more : old.owner ≡ owner.StillEmpty → old.closed ≢ 0 → old.closed ≢ old.popped + 1
+      → new ≡ record old { owner = owner.Seated }
   pub none : old.owner ≢ owner.StillEmpty → new ≡ old
 
 abbrev pub RisesOwner : Ring → Ring → Type 0
@@ -150,7 +178,8 @@ RisesOwner old new = Only (old.is_owner_to_rise ≡ true) old new
     (record old { owner_waits = false; owner_seat = None; is_owner_to_rise = false })
 
 abbrev pub ClosesOwner : Ring → Ring → Type 0
-ClosesOwner old new = Only (OwnerIsFree old) old new (record old { is_owner_shut = true; owner = owner.Wrote })
+ClosesOwner old new =
+    Only (OwnerIsFree old) old new (record old { is_owner_shut = true; owner = owner.Wrote })
 
 -- One step.
 abbrev pub Takes : StreamStep → Ring → Ring → Type 0

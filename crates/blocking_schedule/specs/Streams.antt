@@ -1,5 +1,7 @@
--- A ring without a lock, with a lock round its two seats: what holds of it, whatever steps its two sides took.
-use Rattle.std.specs.Prelude.{◌≡◌, ℕ, ◌+◌, ◌-◌, ◌<◌, ◌≤◌, ◌⊎◌, Bool, true, false, nat_lt, Some, None}
+-- A ring without a lock, with a lock round its two seats: what holds of it, whatever steps its two
+-- sides took.
+use Rattle.std.specs.Prelude.{◌≡◌, ℕ, ◌+◌, ◌-◌, ◌<◌, ◌≤◌, ◌⊎◌, Bool, true, false, nat_lt, Some}
+use Rattle.std.specs.Prelude.{None}
 use Rattle.blocking_schedule.specs.declared.stream.Ring.{Ring}
 use Rattle.blocking_schedule.specs.declared.stream.JobPlace.{JobPlace}
 use Rattle.blocking_schedule.specs.declared.stream.JobPlace.TheVariants as job
@@ -40,7 +42,8 @@ saw_open_seated job.LookedForShut = true
 saw_open_seated job.Parked = true
 saw_open_seated _ = false
 
--- the job left an item or closed its end, and is on its way to the owner's seat: it hasn't looked at the flag, or saw it set
+-- the job left an item or closed its end, and is on its way to the owner's seat: it hasn't looked
+-- at the flag, or saw it set
 abbrev pub is_job_on_its_way : JobPlace → Bool
 is_job_on_its_way job.Wrote = true
 is_job_on_its_way job.SawOwnerWait = true
@@ -89,8 +92,9 @@ IsOwnerWoken r = (r.job ≡ job.HasWaker r.registered) ⊎ (r.is_owner_woken ≡
 abbrev pub IsJobWoken : Ring → Type 0
 IsJobWoken r = (r.owner ≡ owner.HasNote) ⊎ (r.is_job_woken ≡ true)
 
--- Inside are the items from the first that wasn't received up to the last that was sent, at most the capacity. Who closed its end says how
--- many it sent, and sends no more; who shut its end polls no more.
+-- Inside are the items from the first that wasn't received up to the last that was sent, at most
+-- the capacity. Who closed its end says how many it sent, and sends no more; who shut its end polls
+-- no more.
 pub record IsInOrder (r : Ring) : Type 0 where
   pub least : r.popped ≤ r.pushed
   pub most : r.pushed - r.popped ≤ r.capacity
@@ -98,7 +102,8 @@ pub record IsInOrder (r : Ring) : Type 0 where
   pub unclosed : is_sending r.job ≡ true → r.closed ≡ 0
   pub unshut : is_polling r.owner ≡ true → r.is_owner_shut ≡ false
 
--- A seat is filled exactly where its flag is set: the owner's with the waker of its last poll. That is in one place alone.
+-- A seat is filled exactly where its flag is set: the owner's with the waker of its last poll. That
+-- is in one place alone.
 pub record IsSeatedByFlag (r : Ring) : Type 0 where
   pub owner_in : r.owner_waits ≡ true → r.owner_seat ≡ Some r.registered
   pub owner_out : r.owner_waits ≡ false → r.owner_seat ≡ None
@@ -106,21 +111,26 @@ pub record IsSeatedByFlag (r : Ring) : Type 0 where
   pub older : (waker : ℕ) → r.job ≡ job.HasWaker waker → waker ≤ r.registered
   pub once : r.job ≡ job.HasWaker r.registered → r.owner_waits ≡ false
 
--- An owner that took its seat and found nothing since is seated or woken. Where an item came since its look, or the end by the time that it
--- waits, it isn't seated alone: the job is on its way to the seat.
+-- An owner that took its seat and found nothing since is seated or woken. Where an item came since
+-- its look, or the end by the time that it waits, it isn't seated alone: the job is on its way to
+-- the seat.
 pub record IsOwnerHeard (r : Ring) : Type 0 where
   pub stays : is_polling r.owner ≡ true → r.is_owner_to_rise ≡ false
   pub rests : is_owner_resting r.owner ≡ true → (r.owner_waits ≡ true) ⊎ IsOwnerWoken r
-  pub items : saw_empty_seated r.owner ≡ true → r.owner_waits ≡ true → r.popped < r.pushed → is_job_on_its_way r.job ≡ true
-  pub ended : r.owner ≡ owner.Waits → r.owner_waits ≡ true → 0 < r.closed → is_job_on_its_way r.job ≡ true
+  pub items : saw_empty_seated r.owner ≡ true → r.owner_waits ≡ true → r.popped < r.pushed
+      → is_job_on_its_way r.job ≡ true
+  pub ended : r.owner ≡ owner.Waits → r.owner_waits ≡ true → 0 < r.closed
+      → is_job_on_its_way r.job ≡ true
 
--- The same of a job: where the owner's end was shut since its look, or there is room by the time that it is parked, the owner is on its way
--- to the seat.
+-- The same of a job: where the owner's end was shut since its look, or there is room by the time
+-- that it is parked, the owner is on its way to the seat.
 pub record IsJobHeard (r : Ring) : Type 0 where
   pub stays : is_job_resting r.job ≡ true → r.is_job_to_rise ≡ false
   pub rests : is_job_resting r.job ≡ true → (r.job_waits ≡ true) ⊎ IsJobWoken r
-  pub shut : saw_open_seated r.job ≡ true → r.job_waits ≡ true → r.is_owner_shut ≡ true → is_owner_on_its_way r.owner ≡ true
-  pub room : r.job ≡ job.Parked → r.job_waits ≡ true → has_room r ≡ true → is_owner_on_its_way r.owner ≡ true
+  pub shut : saw_open_seated r.job ≡ true → r.job_waits ≡ true → r.is_owner_shut ≡ true
+      → is_owner_on_its_way r.owner ≡ true
+  pub room : r.job ≡ job.Parked → r.job_waits ≡ true → has_room r ≡ true
+      → is_owner_on_its_way r.owner ≡ true
 
 -- Each answer is the plain pipe's at some moment of its call.
 pub record IsPlain (r : Ring) : Type 0 where
@@ -154,23 +164,27 @@ pub record IsEmpty (most : ℕ) (r : Ring) : Type 0 where
   pub sender : r.job ≡ job.Away
   pub receiver : r.owner ≡ owner.Away
 
--- A wake of the owner's last poll is under way, or was made: the job left something or closed its end and has yet to take the waker, which is
--- seated; or it has the waker in hand; or it has called it.
+-- A wake of the owner's last poll is under way, or was made: the job left something or closed its
+-- end and has yet to take the waker, which is seated; or it has the waker in hand; or it has called
+-- it.
 abbrev pub OwnersWake : Ring → Type 0
-OwnersWake r = ((is_job_on_its_way r.job ≡ true) × (r.owner_seat ≡ Some r.registered)) ⊎ IsOwnerWoken r
+OwnersWake r = ((is_job_on_its_way r.job ≡ true) × (r.owner_seat ≡ Some r.registered))
+    ⊎ IsOwnerWoken r
 
--- The same of the job: the owner has yet to take it out of its seat, or has a note in hand, or has spent it.
+-- The same of the job: the owner has yet to take it out of its seat, or has a note in hand, or has
+-- spent it.
 abbrev pub JobsWake : Ring → Type 0
 JobsWake r = ((is_owner_on_its_way r.owner ≡ true) × (r.is_job_seated ≡ true)) ⊎ IsJobWoken r
 
--- An owner whose last poll was answered `Pending` is seated or woken. With an item inside, or the job's end closed, a wake of it is under
--- way.
+-- An owner whose last poll was answered `Pending` is seated or woken. With an item inside, or the
+-- job's end closed, a wake of it is under way.
 pub record OwnerIsHeard (r : Ring) : Type 0 where
   pub seated : r.owner ≡ owner.Waits → (r.owner_seat ≡ Some r.registered) ⊎ IsOwnerWoken r
   pub item : r.owner ≡ owner.Waits → r.popped < r.pushed → OwnersWake r
   pub closed : r.owner ≡ owner.Waits → 0 < r.closed → OwnersWake r
 
--- A job that is parked is seated or woken. With room in the ring, or the owner's end shut, a wake of it is under way.
+-- A job that is parked is seated or woken. With room in the ring, or the owner's end shut, a wake
+-- of it is under way.
 pub record JobIsHeard (r : Ring) : Type 0 where
   pub seated : r.job ≡ job.Parked → (r.is_job_seated ≡ true) ⊎ IsJobWoken r
   pub room : r.job ≡ job.Parked → has_room r ≡ true → JobsWake r
@@ -178,32 +192,36 @@ pub record JobIsHeard (r : Ring) : Type 0 where
 
 -- where both wait, a wake of one of them is under way
 abbrev pub SomeoneIsWoken : Ring → Type 0
-SomeoneIsWoken r = 0 < r.capacity → r.owner ≡ owner.Waits → r.job ≡ job.Parked → OwnersWake r ⊎ JobsWake r
+SomeoneIsWoken r = 0 < r.capacity → r.owner ≡ owner.Waits → r.job ≡ job.Parked
+    → OwnersWake r ⊎ JobsWake r
 
--- a seat is filled exactly where its flag is set; the owner's with the waker of its last poll, which isn't in the job's hand then
+-- a seat is filled exactly where its flag is set; the owner's with the waker of its last poll,
+-- which isn't in the job's hand then
 pub record SeatsAreFlagged (r : Ring) : Type 0 where
   pub set : r.owner_waits ≡ true → r.owner_seat ≡ Some r.registered
   pub clear : r.owner_waits ≡ false → r.owner_seat ≡ None
   pub number : r.is_job_seated ≡ r.job_waits
   pub once : r.job ≡ job.HasWaker r.registered → r.owner_seat ≡ None
 
--- The items inside are those that were sent and not received, at most the capacity: so they come out in order, none twice, and none is lost.
--- The owner's answer is the last that it took out; and it is told the end only where all was received.
+-- The items inside are those that were sent and not received, at most the capacity: so they come
+-- out in order, none twice, and none is lost. The owner's answer is the last that it took out; and
+-- it is told the end only where all was received.
 pub record ItemsAreInOrder (r : Ring) : Type 0 where
   pub least : r.popped ≤ r.pushed
   pub most : r.pushed ≤ r.popped + r.capacity
   pub last : (n : ℕ) → r.receive_answer ≡ receiving.Item n → r.popped ≡ n + 1
   pub all : r.receive_answer ≡ receiving.Ended → (r.popped ≡ r.pushed) × (r.closed ≡ r.pushed + 1)
 
--- An answer is what a plain pipe would have answered at some moment since the call began (`could_send`, `could_park`, `could_wait`).
+-- An answer is what a plain pipe would have answered at some moment since the call began
+-- (`could_send`, `could_park`, `could_wait`).
 pub record AnswersArePlain (r : Ring) : Type 0 where
   pub sent : r.send_answer ≡ sending.Sent → r.could_send ≡ true
   pub shut : r.send_answer ≡ sending.Shut → r.is_owner_shut ≡ true
   pub parked : r.send_answer ≡ sending.Parked → r.could_park ≡ true
   pub pending : r.receive_answer ≡ receiving.Pending → r.could_wait ≡ true
 
--- What a plain pipe, with all of it under one lock, would do at this moment. A send: it takes the item, parks the job, or says that the owner's
--- end is shut.
+-- What a plain pipe, with all of it under one lock, would do at this moment. A send: it takes the
+-- item, parks the job, or says that the owner's end is shut.
 abbrev pub WouldTake : Ring → Type 0
 WouldTake r = (r.is_owner_shut ≡ false) × (has_room r ≡ true)
 
@@ -223,16 +241,19 @@ WouldEnd r = (r.popped ≡ r.pushed) × (0 < r.closed)
 abbrev pub WouldWait : Ring → Type 0
 WouldWait r = (r.popped ≡ r.pushed) × (r.closed ≡ 0)
 
--- A step says that a call could have been answered so, or answers it so, only where that was said before in this call, or a plain pipe would
--- answer so right at this step, before it or after it.
+-- A step says that a call could have been answered so, or answers it so, only where that was said
+-- before in this call, or a plain pipe would answer so right at this step, before it or after it.
 pub record IsByMoment (old new : Ring) : Type 0 where
   pub send : new.could_send ≡ true → (old.could_send ≡ true) ⊎ (WouldTake old ⊎ WouldTake new)
   pub park : new.could_park ≡ true → (old.could_park ≡ true) ⊎ WouldPark old
   pub wait : new.could_wait ≡ true → (old.could_wait ≡ true) ⊎ WouldWait old
   pub refuse : new.send_answer ≡ sending.Shut → (old.send_answer ≡ sending.Shut) ⊎ WouldRefuse old
-  pub give : (n : ℕ) → new.receive_answer ≡ receiving.Item n → (old.receive_answer ≡ receiving.Item n) ⊎ WouldGive n old
-  pub ends : new.receive_answer ≡ receiving.Ended → (old.receive_answer ≡ receiving.Ended) ⊎ WouldEnd old
+  pub give : (n : ℕ) → new.receive_answer ≡ receiving.Item n
+      → (old.receive_answer ≡ receiving.Item n) ⊎ WouldGive n old
+  pub ends : new.receive_answer ≡ receiving.Ended
+      → (old.receive_answer ≡ receiving.Ended) ⊎ WouldEnd old
   -- when a call begins nothing was said in it
-  pub begins : old.job ≡ job.Away → new.job ≡ job.SawOpen → (new.could_send ≡ true → WouldTake old) × (new.could_park ≡ false)
+  pub begins : old.job ≡ job.Away → new.job ≡ job.SawOpen
+      → (new.could_send ≡ true → WouldTake old) × (new.could_park ≡ false)
   pub polls : is_polling old.owner ≡ false → is_polling new.owner ≡ true → new.could_wait ≡ false
   pub repolls : old.owner ≡ owner.Waits → new.owner ≡ owner.Looking → new.could_wait ≡ false

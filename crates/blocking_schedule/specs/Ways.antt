@@ -1,4 +1,5 @@
--- Where a step leads a thread, so that a machine which stands still is none, nor one that moves another thread.
+-- Where a step leads a thread, so that a machine which stands still is none, nor one that moves
+-- another thread.
 use Rattle.std.specs.Prelude.{◌≡◌, ℕ, true, false, Some, set, slice_get}
 use Rattle.blocking_schedule.specs.declared.place.Place.{Place}
 use Rattle.blocking_schedule.specs.declared.schedule.Schedule.{Schedule}
@@ -22,7 +23,8 @@ StandsIfLocked old new = old.is_locked ≡ true → new ≡ old
 -- two threads that are at two places are at two others then
 abbrev pub LeadsBoth : ℕ → Place → Place → ℕ → Place → Place → Schedule → Schedule → Type 0
 LeadsBoth other there goes who from to old new =
-    IsAt other there old → IsAt who from old → new.threads.items ≡ set (set old.threads.items other goes) who to
+    IsAt other there old → IsAt who from old
+    → new.threads.items ≡ set (set old.threads.items other goes) who to
 
 -- the pool is as it was, and so is the post of the worker that looks
 abbrev pub KeepsPool : Schedule → Schedule → Type 0

@@ -11,7 +11,8 @@ module _ {T : Type 0} where
   -- the same, with a fault as the error of the system that it is told as
   abbrev pub IsTold : Poll (Result T (Fault Error)) → Poll (Result T Error) → Type 0
   IsTold (Ready (Ok value)) told = told ≡ Ready (Ok value)
-  IsTold (Ready (Err fault)) told = (error : Error) × (told ≡ Ready (Err error)) × IsToldAs fault error
+  IsTold (Ready (Err fault)) told =
+      (error : Error) × (told ≡ Ready (Err error)) × IsToldAs fault error
   IsTold Pending told = told ≡ Pending
 
   -- the same, with an error as a fault of the handle

@@ -1,4 +1,5 @@
--- What the kit's traits ask of a reader, said by the polls of one of ours, with the proofs of their laws.
+-- What the kit's traits ask of a reader, said by the polls of one of ours, with the proofs of their
+-- laws.
 use Rattle.std.proofs.Common.{◌≡◌, ◌∙◌, ap, refl, ℕ, ◌<◌, List, [], ◌++◌, Ok, Err}
 use Rattle.std.specs.declared.io.Error.{Error}
 use Rattle.futures.specs.declared.task.Poll.TheVariants.{Ready}
@@ -11,7 +12,8 @@ use Rattle.blocking_io.proofs.Passes.{passes_join, read_on}
 module _ {A : Type 0} (reads : A → ReaderPoll → A → Type 0) where
   -- polls led from the one state to the other, and these are all bytes that they gave, in order
   abbrev pub Gives : A → List ℕ → A → Type 0
-  Gives old bytes new = (polls : List ReaderPoll) × Passes reads old polls new × (all_read polls ≡ bytes)
+  Gives old bytes new =
+      (polls : List ReaderPoll) × Passes reads old polls new × (all_read polls ≡ bytes)
 
   -- a read with room for a byte led to this state, and gave none
   abbrev pub MetEnd : A → Type 0
@@ -19,12 +21,14 @@ module _ {A : Type 0} (reads : A → ReaderPoll → A → Type 0) where
 
   -- a read led to this state by a fault that is told as this error of the system
   abbrev pub ReadFails : A → Error → Type 0
-  ReadFails new error = (old : A) × (room : ℕ) × (fault : Fault Error) × reads old (OfRead room (Ready (Err fault))) new × IsToldAs fault error
+  ReadFails new error = (old : A) × (room : ℕ) × (fault : Fault Error)
+      × reads old (OfRead room (Ready (Err fault))) new × IsToldAs fault error
 
   pub gives_nothing : (reader : A) → Gives reader [] reader
   gives_nothing reader = ([], refl, refl)
 
-  pub gives_in_order : (old : A) (xs : List ℕ) (mid : A) (ys : List ℕ) (new : A) → Gives old xs mid → Gives mid ys new → Gives old (xs ++ ys) new
+  pub gives_in_order : (old : A) (xs : List ℕ) (mid : A) (ys : List ℕ) (new : A) → Gives old xs mid
+      → Gives mid ys new → Gives old (xs ++ ys) new
   gives_in_order old xs mid ys new first rest = (
     first.0 ++ rest.0,
     passes_join reads old mid new first.0 rest.0 first.1 rest.1,

@@ -1,5 +1,7 @@
--- What the kit's traits ask of a writer, said by the polls of one of ours, with the proofs of their laws.
-use Rattle.std.proofs.Common.{◌≡◌, ◌⊎◌, ◌∙◌, ap, sym, subst, refl, ℕ, Bool, true, false, List, [], ◌++◌, Ok, Err, append-nil}
+-- What the kit's traits ask of a writer, said by the polls of one of ours, with the proofs of their
+-- laws.
+use Rattle.std.proofs.Common.{◌≡◌, ◌⊎◌, ◌∙◌, ap, sym, subst, refl, ℕ, Bool, true, false, List, []}
+use Rattle.std.proofs.Common.{◌++◌, Ok, Err, append-nil}
 use Rattle.std.specs.declared.io.Error.{Error}
 use Rattle.futures.specs.declared.task.Poll.TheVariants.{Ready}
 use Rattle.blocking_core.specs.Faults.{IsToldAs}
@@ -9,14 +11,18 @@ use Rattle.blocking_io.specs.Polled.{WriterPoll, OfFlush, OfWrite}
 use Rattle.blocking_io.proofs.Passes.{passes_join, written_on}
 
 module _ {A : Type 0} (writes : A → WriterPoll → A → Type 0) where
-  -- polls of writes and flushes led from the one state to the other, and these are all bytes that they took, in order
+  -- polls of writes and flushes led from the one state to the other, and these are all bytes that
+  -- they took, in order
   abbrev pub Took : A → List ℕ → A → Type 0
-  Took old bytes new = (polls : List WriterPoll) × Passes writes old polls new × (all_written polls ≡ bytes)
+  Took old bytes new =
+      (polls : List WriterPoll) × Passes writes old polls new × (all_written polls ≡ bytes)
 
-  -- The same of a writer that may be shut down on the way: what was shut stays so and takes nothing more.
+  -- The same of a writer that may be shut down on the way: what was shut stays so and takes nothing
+  -- more.
   abbrev pub Takes : Bool → A → List ℕ → Bool → A → Type 0
   Takes true old bytes is_shut new = (bytes ≡ []) × (is_shut ≡ true)
-  Takes false old bytes is_shut new = (last : A) × Took old bytes last × (is_shut ≡ false → new ≡ last)
+  Takes false old bytes is_shut new =
+      (last : A) × Took old bytes last × (is_shut ≡ false → new ≡ last)
 
   -- a flush that was done led to this state
   abbrev pub WasFlushed : A → Type 0
@@ -29,7 +35,8 @@ module _ {A : Type 0} (writes : A → WriterPoll → A → Type 0) where
   -- a write or a flush led to this state by a fault that is told as this error of the system
   abbrev pub WriteFails : A → Error → Type 0
   WriteFails new error =
-      (old : A) × (fault : Fault Error) × (writes old (OfWrite (Ready (Err fault))) new ⊎ writes old (OfFlush (Ready (Err fault))) new)
+      (old : A) × (fault : Fault Error) × (writes old (OfWrite (Ready (Err fault))) new
+      ⊎ writes old (OfFlush (Ready (Err fault))) new)
       × IsToldAs fault error
 
   pub takes_nothing : (is_shut : Bool) (writer : A) → Takes is_shut writer [] is_shut writer
@@ -39,9 +46,11 @@ module _ {A : Type 0} (writes : A → WriterPoll → A → Type 0) where
   both_nothing : (xs ys : List ℕ) → xs ≡ [] → ys ≡ [] → xs ++ ys ≡ []
   both_nothing xs ys none nor = ap (λ l. l ++ ys) none ∙ nor
 
-  pub takes_in_order : (was : Bool) (old : A) (xs : List ℕ) (between : Bool) (mid : A) (ys : List ℕ) (is : Bool) (new : A)
+  pub takes_in_order : (was : Bool) (old : A) (xs : List ℕ) (between : Bool) (mid : A) (ys : List ℕ)
+      (is : Bool) (new : A)
       → Takes was old xs between mid → Takes between mid ys is new → Takes was old (xs ++ ys) is new
-  takes_in_order true old xs true mid ys is new first rest = (both_nothing xs ys first.0 rest.0, rest.1)
+  takes_in_order true old xs true mid ys is new first rest =
+      (both_nothing xs ys first.0 rest.0, rest.1)
   takes_in_order true old xs false mid ys is new first rest = cc
   takes_in_order false old xs true mid ys is new first rest = (
     first.0,
@@ -53,8 +62,10 @@ module _ {A : Type 0} (writes : A → WriterPoll → A → Type 0) where
         rest.0,
         (
           first.1.0 ++ rest.1.0,
-          passes_join writes old first.0 rest.0 first.1.0 rest.1.0 first.1.1 (subst Q (first.2 refl) rest.1.1),
-          written_on first.1.0 rest.1.0 ∙ (ap (λ l. l ++ all_written rest.1.0) first.1.2 ∙ ap (λ l. xs ++ l) rest.1.2),
+          passes_join writes old first.0 rest.0 first.1.0 rest.1.0 first.1.1
+              (subst Q (first.2 refl) rest.1.1),
+          written_on first.1.0 rest.1.0
+              ∙ (ap (λ l. l ++ all_written rest.1.0) first.1.2 ∙ ap (λ l. xs ++ l) rest.1.2),
         ),
         rest.2,
       )

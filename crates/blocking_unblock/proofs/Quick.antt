@@ -1,5 +1,6 @@
 -- A poll that finds an item at once does what the machine of that poll comes to.
-use Rattle.std.proofs.Common.{Bool, true, false, List, [], ◌∷◌, Option, Some, None, refl, sym, subst}
+use Rattle.std.proofs.Common.{Bool, true, false, List, [], ◌∷◌, Option, Some, None, refl, sym}
+use Rattle.std.proofs.Common.{subst}
 use Rattle.std.specs.declared.io.Error.{Error}
 use Rattle.futures.specs.declared.task.Poll.TheVariants.{Ready}
 use Rattle.blocking_core.specs.OwnerCalls.{OwnerMachine, new_poll, owner_after}
@@ -27,11 +28,24 @@ noted None = false
 module _ {T I H : Type 0} (old new : Place T I H) (at : IsAt (Lent Streaming Open) old) where
   -- where its poll comes to
   abbrev Comes : Bool → State → Type 0
-  Comes noted state = (end : OwnerMachine Error) × Reaches (new_poll Next state) end × EndsWith end (Ready reply.Item) × IsAt end.state new
+  Comes noted state = (end : OwnerMachine Error) × Reaches (new_poll Next state) end
+      × EndsWith end (Ready reply.Item) × IsAt end.state new
 
-  pub quick : (noted : Bool) → IsAt (Lent Streaming Open) new → Follows {E = Error} Next old (Ready reply.Item) new
+  pub quick : (noted : Bool) → IsAt (Lent Streaming Open) new
+      → Follows {E = Error} Next old (Ready reply.Item) new
   quick true same =
-      subst (Comes true) (sym at)
-      (owner_after (owner_after (new_poll Next (Lent Streaming Open)) (by.Received true)) by.Delivered, (answers true, (tt, (tt, refl))), refl, same)
+      subst (Comes true) (sym at) (
+        owner_after (owner_after (new_poll Next (Lent Streaming Open)) (by.Received true))
+            by.Delivered,
+        (answers true, (tt, (tt, refl))),
+        refl,
+        same,
+      )
   quick false same =
-      subst (Comes false) (sym at) (owner_after (new_poll Next (Lent Streaming Open)) (by.Received false), (answers false, (tt, refl)), refl, same)
+      subst (Comes false) (sym at) (
+        owner_after (new_poll Next (Lent Streaming Open))
+            (by.Received false),
+        (answers false, (tt, refl)),
+        refl,
+        same,
+      )

@@ -9,11 +9,14 @@ use Rattle.blocking_unblock.specs.Polls.{Kept, FitsReply}
 use Rattle.blocking_unblock.specs.declared.place.Place.{Place}
 
 module _ {E : Type 0} {one other : Reply E} (same : one ≡ other) where
-  pub follows_as : {T I H : Type 0} (call : PollCall) (old new : Place T I H) → Follows call old (Ready one) new → Follows call old (Ready other) new
+  pub follows_as : {T I H : Type 0} (call : PollCall) (old new : Place T I H)
+      → Follows call old (Ready one) new → Follows call old (Ready other) new
   follows_as call old new = subst (λ it. Follows call old (Ready it) new) same
 
-  pub fits_as : (call : PollCall) (state : State) (ready : Type 0) (kept : Kept → Type 0) → FitsReply call state one ready kept → FitsReply call state other ready kept
+  pub fits_as : (call : PollCall) (state : State) (ready : Type 0) (kept : Kept → Type 0)
+      → FitsReply call state one ready kept → FitsReply call state other ready kept
   fits_as call state ready kept = subst (λ it. FitsReply call state it ready kept) same
 
-  pub crossed_as : {T I H : Type 0} (place : Place T I H) (before : ℕ) → HasCrossed one place before → HasCrossed other place before
+  pub crossed_as : {T I H : Type 0} (place : Place T I H) (before : ℕ) → HasCrossed one place before
+      → HasCrossed other place before
   crossed_as place before = subst (λ it. HasCrossed it place before) same

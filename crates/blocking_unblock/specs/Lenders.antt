@@ -22,7 +22,8 @@ module _ {F S R : Type 0} where
   has_begun (stage.Begun seat) = true
   has_begun now = false
 
-  -- an operation that has begun waits for its result, and one that has a result has one that it may give
+  -- an operation that has begun waits for its result, and one that has a result has one that it may
+  -- give
   abbrev pub operation_keeps : (R → Type 0) → Stage F S R → Kept → Type 0
   operation_keeps may_give (stage.Begun seat) Way = Unit {0}
   operation_keeps may_give (stage.Gave gave) Gave = may_give gave

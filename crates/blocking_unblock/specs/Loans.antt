@@ -17,13 +17,18 @@ IfLent (Some handle) lent kept = lent
 IfLent None lent kept = kept
 
 -- the handle ends as it is left there; where it isn't with its owner, all is as before
-abbrev pub lends_place : (T I H : RattleType) → MutBor (Place T.Denot I.Denot H.Denot) → Option (MutBor T.Denot) → Fml
-lends_place T I H place handle = LendsSo (place_row T I H) T place handle (λ last left. IfLent handle (last ≡ Idle left) (last ≡ place.now)) (λ last. last ≡ place.now)
+abbrev pub lends_place : (T I H : RattleType) → MutBor (Place T.Denot I.Denot H.Denot)
+    → Option (MutBor T.Denot) → Fml
+lends_place T I H place handle = LendsSo (place_row T I H) T place handle
+    (λ last left. IfLent handle (last ≡ Idle left) (last ≡ place.now)) (λ last. last ≡ place.now)
 
 -- the same of its owner, who stays as it is beside
-abbrev pub lends_handle : (T I K H : RattleType) (job : Ghosts K.Denot) {memory : allocator.Ghosts Global} {copies : clone.Ghosts Global}
-    → MutBor (Unblock T.Denot I.Denot K.Denot H.Denot job memory copies) → Option (MutBor T.Denot) → Fml
+abbrev pub lends_handle : (T I K H : RattleType) (job : Ghosts K.Denot)
+    {memory : allocator.Ghosts Global} {copies : clone.Ghosts Global}
+    → MutBor (Unblock T.Denot I.Denot K.Denot H.Denot job memory copies) → Option (MutBor T.Denot)
+    → Fml
 lends_handle T I K H job {memory} {copies} owner handle =
     LendsSo (the_row T I K H job memory copies) T owner handle
-    (λ last left. IfLent handle (last ≡ record owner.now { place = Idle left; held = refl }) (last ≡ owner.now))
+    (λ last left. IfLent handle (last ≡ record owner.now { place = Idle left; held = refl })
+    (last ≡ owner.now))
     (λ last. last ≡ owner.now)

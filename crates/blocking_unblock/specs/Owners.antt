@@ -1,6 +1,9 @@
--- What a poll of an owner does: where the handle is, what it may answer to each action, and what its reply says of it.
-use Rattle.std.specs.Prelude.{◌≡◌, ◌+◌, ◌<◌, ◌≤◌, ℕ, if◌then◌else◌, Bool, true, false, List, [], ◌∷◌, Option, Some, None, IsSome, Result, Ok, Err}
-use Rattle.blocking_core.specs.OwnerCalls.{OwnerMachine, new_poll, owner_next, owner_after, table, has_pipe}
+-- What a poll of an owner does: where the handle is, what it may answer to each action, and what
+-- its reply says of it.
+use Rattle.std.specs.Prelude.{◌≡◌, ◌+◌, ◌<◌, ◌≤◌, ℕ, if◌then◌else◌, Bool, true, false, List, []}
+use Rattle.std.specs.Prelude.{◌∷◌, Option, Some, None, IsSome, Result, Ok, Err}
+use Rattle.blocking_core.specs.OwnerCalls.{OwnerMachine, new_poll, owner_next, owner_after, table}
+use Rattle.blocking_core.specs.OwnerCalls.{has_pipe}
 use Rattle.blocking_core.specs.declared.io.Fault.{Fault}
 use Rattle.blocking_core.specs.declared.io.Fault.TheVariants as fault
 use Rattle.blocking_core.specs.declared.io.JobFault.{JobFault}
@@ -60,7 +63,8 @@ abbrev pub offered : PollCall → ℕ
 offered (Write most) = most
 offered call = 0
 
--- whether a call goes on in the session that is under way: a read, a write or the next item in one of its own that is open
+-- whether a call goes on in the session that is under way: a read, a write or the next item in one
+-- of its own that is open
 abbrev pub goes_on : PollCall → State → Bool
 goes_on (Read most) (state.Lent kind.Reading Open) = true
 goes_on (Write most) (state.Lent kind.Writing Open) = true
@@ -78,7 +82,8 @@ operates (state.Lent kind.Operating Open) = true
 operates now = false
 
 module _ {T I H : Type 0} where
-  -- how many bytes or items crossed the pipe of a session: into it from its owner, or out of it to its owner
+  -- how many bytes or items crossed the pipe of a session: into it from its owner, or out of it to
+  -- its owner
   abbrev pub crossed : Side T I H → ℕ
   crossed (side.Reading end way_back) = end.hand.received
   crossed (side.Writing end way_back) = end.sent
@@ -108,13 +113,15 @@ module _ {T I H : Type 0} where
   kind_of (side.Seeking to way_back) = kind.Seeking to
   kind_of (side.Operating way_back) = kind.Operating
 
-  -- where the handle is: with its owner, with the job of a session of some kind whose end on the owner's side stands so, or nowhere
+  -- where the handle is: with its owner, with the job of a session of some kind whose end on the
+  -- owner's side stands so, or nowhere
   abbrev pub state_of : Place T I H → State
   state_of (place.Idle handle) = state.Idle
   state_of (place.Lent session) = state.Lent (kind_of session.side) session.owner_end
   state_of place.Closed = state.Closed
 
-  -- whether the handle of the session that is under way was taken out of its slot, and is nowhere now
+  -- whether the handle of the session that is under way was taken out of its slot, and is nowhere
+  -- now
   abbrev pub is_lost : Place T I H → Bool
   is_lost (place.Lent session) = is_back session.side
   is_lost (place.Idle handle) = false
@@ -135,11 +142,13 @@ module _ {T I H : Type 0} where
   SawEndAt (place.Lent session) = SawEndOf session.side
   SawEndAt place = ⊥
 
-  -- what had crossed before the pipe in which a call goes on: nothing, where it has yet to begin a session of its own
+  -- what had crossed before the pipe in which a call goes on: nothing, where it has yet to begin a
+  -- session of its own
   abbrev pub crossed_before : PollCall → Place T I H → ℕ
   crossed_before call place = if goes_on call (state_of place) then crossed_at place else 0
 
-  -- so many bytes, or the item, that a reply tells have crossed a pipe that so many had crossed before
+  -- so many bytes, or the item, that a reply tells have crossed a pipe that so many had crossed
+  -- before
   abbrev pub HasCrossed : {E : Type 0} → Reply E → Place T I H → ℕ → Type 0
   HasCrossed (reply.Count count) place before = 0 < count → crossed_at place ≡ before + count
   HasCrossed reply.Item place before = crossed_at place ≡ before + 1
@@ -169,7 +178,8 @@ module _ {T I H : Type 0} where
   IsFor client _ = Unit {0}
 
 module _ {E : Type 0} where
-  -- A fault that a job gives back with its handle: its handle's own, or that a write got nothing on. It is no refusal.
+  -- A fault that a job gives back with its handle: its handle's own, or that a write got nothing
+  -- on. It is no refusal.
   abbrev pub IsOfJob : Option (Fault E) → Type 0
   IsOfJob None = Unit {0}
   IsOfJob (Some (fault.Io error)) = Unit {0}
@@ -206,8 +216,9 @@ module _ {E : Type 0} where
   BackAt (state.Lent kind end) answer = BackFrom kind answer
   BackAt state answer = ⊥
 
-  -- This is an answer to that action, where the handle is there: what comes out of a pipe, or goes into one, is a byte at least, and no more
-  -- than was asked for or offered; and only a seek brings a position.
+  -- This is an answer to that action, where the handle is there: what comes out of a pipe, or goes
+  -- into one, is a byte at least, and no more than was asked for or offered; and only a seek brings
+  -- a position.
   abbrev pub AnswersTo : State → OwnerAction E → OwnerAnswer E → Type 0
   AnswersTo state act.Begin by.Begun = Unit {0}
   AnswersTo state act.Begin (by.Refused why) = Unit {0}
@@ -232,7 +243,8 @@ module _ {E : Type 0} where
   -- the machine comes from one to the other by these answers, each to the action that was next
   abbrev pub Runs : OwnerMachine E → List (OwnerAnswer E) → OwnerMachine E → Type 0
   Runs old [] new = new ≡ old
-  Runs old (answer ∷ rest) new = AnswersTo old.state (owner_next old) answer × Runs (owner_after old answer) rest new
+  Runs old (answer ∷ rest) new =
+      AnswersTo old.state (owner_next old) answer × Runs (owner_after old answer) rest new
 
   abbrev pub Reaches : OwnerMachine E → OwnerMachine E → Type 0
   Reaches old new = (answers : List (OwnerAnswer E)) × Runs old answers new
@@ -248,13 +260,15 @@ module _ {E : Type 0} where
   IfRefused (Ready (reply.NotBegun why)) P = P
   IfRefused _ P = Unit {0}
 
-  -- what a drain means to the machine: what came out and whether there is a note, the end, or that the owner waits
+  -- what a drain means to the machine: what came out and whether there is a note, the end, or that
+  -- the owner waits
   abbrev pub answer_of_drain : Drained → OwnerAnswer E
   answer_of_drain (drained.Got count note) = by.Got count (has note)
   answer_of_drain drained.Ended = by.Ended
   answer_of_drain (drained.Waits seat) = by.WaitsAtPipe seat
 
-  -- what a fill means to the machine: what went in and whether there is a note, that nothing goes in any more, or that the owner waits
+  -- what a fill means to the machine: what went in and whether there is a note, that nothing goes
+  -- in any more, or that the owner waits
   abbrev pub answer_of_fill : Filled → OwnerAnswer E
   answer_of_fill (filled.Took count note) = by.Took count (has note)
   answer_of_fill filled.Shut = by.Shut
@@ -296,15 +310,20 @@ abbrev pub reply_of_get : {A : Type 0} → Poll A → Poll (Reply Error)
 reply_of_get (Ready handle) = Ready reply.Handle
 reply_of_get Pending = Pending
 
--- What a poll does and answers: its machine begins by the call and where the handle is, gets answers, each to the action that was
--- next, and ends where the handle is then; the reply is the machine's.
-abbrev pub Follows : {T I H E : Type 0} → PollCall → Place T I H → Poll (Reply E) → Place T I H → Type 0
+-- What a poll does and answers: its machine begins by the call and where the handle is, gets
+-- answers, each to the action that was next, and ends where the handle is then; the reply is the
+-- machine's.
+abbrev pub Follows : {T I H E : Type 0} → PollCall → Place T I H → Poll (Reply E) → Place T I H
+    → Type 0
 Follows {T} {I} {H} {E} call old reply new =
-    (end : OwnerMachine E) × Reaches (new_poll call (state_of old)) end × EndsWith end reply × IsAt end.state new
+    (end : OwnerMachine E) × Reaches (new_poll call (state_of old)) end × EndsWith end reply
+    × IsAt end.state new
 
--- Where no session could begin the handle is with its owner, and as it was, where it was there before.
+-- Where no session could begin the handle is with its owner, and as it was, where it was there
+-- before.
 abbrev pub KeepsRefused : {T I H E : Type 0} → Place T I H → Poll (Reply E) → Place T I H → Type 0
-KeepsRefused old reply new = IfRefused reply (IsAt state.Idle new × (IsAt state.Idle old → new ≡ old))
+KeepsRefused old reply new =
+    IfRefused reply (IsAt state.Idle new × (IsAt state.Idle old → new ≡ old))
 
 -- the poll has its reply
 abbrev pub HasReply : {E : Type 0} → OwnerAction E → Type 0

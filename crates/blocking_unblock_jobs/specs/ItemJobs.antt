@@ -4,14 +4,16 @@ use Rattle.std.specs.Coded.{Coded, code_by, coded×, coded_bool, coded_ℕ, code
 use Rattle.blocking_core.specs.Machines.{Machine}
 use Rattle.blocking_core.specs.Items.{item_next, item_after}
 use Rattle.blocking_core.specs.declared.job.item.ItemAction.{ItemAction}
-use Rattle.blocking_core.specs.declared.job.item.ItemAction.TheVariants.{Next, Send, Close, Finish, Deliver, Done}
+use Rattle.blocking_core.specs.declared.job.item.ItemAction.TheVariants.{Next, Send, Close, Finish}
+use Rattle.blocking_core.specs.declared.job.item.ItemAction.TheVariants.{Deliver, Done}
 use Rattle.blocking_core.specs.declared.job.item.ItemAnswer.{ItemAnswer}
 use Rattle.blocking_core.specs.declared.job.item.ItemAnswer.TheVariants as by
 use Rattle.blocking_core.specs.contracts.job.item.ItemAction.{the_row}
 use Rattle.blocking_pool.specs.declared.pool.job.JobStep.{JobStep}
 use Rattle.blocking_pool.specs.declared.pool.job.JobStep.TheVariants as step
 
--- the job of an iterator: what it does next, its iterator until that is given back, the item in its hand, and how many it has sent
+-- the job of an iterator: what it does next, its iterator until that is given back, the item in its
+-- hand, and how many it has sent
 pub record ItemSeen (T I : Type 0) : Type 0 where
   pub core : Machine ItemAction
   pub iterator : Option T
@@ -21,7 +23,8 @@ pub record ItemSeen (T I : Type 0) : Type 0 where
 abbrev pub item_code : {T I : Type 0} → Coded T → Coded I → Coded (ItemSeen T I)
 item_code {T} {I} code item =
     code_by (ItemAction × (Bool × (Option T × (Option I × ℕ))))
-    (coded× the_row.coded (coded× coded_bool (coded× (coded_option code) (coded× (coded_option item) coded_ℕ))))
+    (coded× the_row.coded
+    (coded× coded_bool (coded× (coded_option code) (coded× (coded_option item) coded_ℕ))))
     (λ seen. (seen.core.next, (seen.core.is_waking, (seen.iterator, (seen.hand, seen.sent)))))
     (λ parts. record {
       core = record { next = parts.0; is_waking = parts.1.0 };
@@ -42,7 +45,8 @@ Answers Finish (by.Finished woke) = Unit {0}
 Answers Deliver by.Delivered = Unit {0}
 Answers action answer = ⊥
 
--- what a step tells its worker: a job that was seated waits, one that has nothing more to do is done, and else it goes on
+-- what a step tells its worker: a job that was seated waits, one that has nothing more to do is
+-- done, and else it goes on
 abbrev pub told_by : ItemAnswer → ItemAction → JobStep
 told_by by.Parked then = step.Waiting
 told_by answer Done = step.Done
@@ -59,32 +63,41 @@ module _ {T I : Type 0} where
   Gives next_gives (Some old) item (Some new) = next_gives old item new
   Gives next_gives _ item _ = ⊥
 
-  -- What becomes of the iterator and of the item in hand: what the iterator gave is in hand, and stays there until it is sent or nobody
-  -- wants it; at the end none is in hand. Only a finish gives the iterator away.
+  -- What becomes of the iterator and of the item in hand: what the iterator gave is in hand, and
+  -- stays there until it is sent or nobody wants it; at the end none is in hand. Only a finish
+  -- gives the iterator away.
   abbrev pub Hands : (T → Option I → T → Type 0) → ItemAnswer → ItemSeen T I → ItemSeen T I → Type 0
-  Hands next_gives by.Gave old new = Gives next_gives old.iterator new.hand new.iterator × IsSome new.hand
-  Hands next_gives by.Ended old new = Gives next_gives old.iterator None new.iterator × (new.hand ≡ None)
+  Hands next_gives by.Gave old new =
+      Gives next_gives old.iterator new.hand new.iterator × IsSome new.hand
+  Hands next_gives by.Ended old new =
+      Gives next_gives old.iterator None new.iterator × (new.hand ≡ None)
   Hands next_gives (by.Sent woke) old new = (new.iterator ≡ old.iterator) × (new.hand ≡ None)
   Hands next_gives by.Shut old new = (new.iterator ≡ old.iterator) × (new.hand ≡ None)
   Hands next_gives (by.Finished woke) old new = (new.iterator ≡ None) × (new.hand ≡ old.hand)
   Hands next_gives answer old new = (new.iterator ≡ old.iterator) × (new.hand ≡ old.hand)
 
-  -- the machine got one answer, to the action that was next, and what it says of the item is what became of it
-  abbrev pub OneAnswer : (T → Option I → T → Type 0) → ItemAction → ItemSeen T I → ItemSeen T I → JobStep → Type 0
+  -- the machine got one answer, to the action that was next, and what it says of the item is what
+  -- became of it
+  abbrev pub OneAnswer : (T → Option I → T → Type 0) → ItemAction → ItemSeen T I → ItemSeen T I
+      → JobStep → Type 0
   OneAnswer next_gives action old new told =
       (answer : ItemAnswer) × (new.core ≡ item_after old.core answer) × Answers action answer
       × (new.sent ≡ old.sent + sent_by answer) × (told ≡ told_by answer (item_next new.core))
       × Hands next_gives answer old new
 
-  -- What one step does: the machine gets one answer, to the action that was next; a job that is over does nothing.
-  abbrev pub IsSteppedBy : (T → Option I → T → Type 0) → ItemAction → ItemSeen T I → ItemSeen T I → JobStep → Type 0
+  -- What one step does: the machine gets one answer, to the action that was next; a job that is
+  -- over does nothing.
+  abbrev pub IsSteppedBy : (T → Option I → T → Type 0) → ItemAction → ItemSeen T I → ItemSeen T I
+      → JobStep → Type 0
   IsSteppedBy next_gives Done old new told = (new ≡ old) × (told ≡ step.Done)
   IsSteppedBy next_gives action old new told = OneAnswer next_gives action old new told
 
-  abbrev pub IsStepped : (T → Option I → T → Type 0) → ItemSeen T I → ItemSeen T I → JobStep → Type 0
+  abbrev pub IsStepped : (T → Option I → T → Type 0) → ItemSeen T I → ItemSeen T I → JobStep
+      → Type 0
   IsStepped next_gives old new told = IsSteppedBy next_gives (item_next old.core) old new told
 
--- The job has what its next action is about: its iterator until that is given back, and an item in hand exactly where one is to be sent.
+-- The job has what its next action is about: its iterator until that is given back, and an item in
+-- hand exactly where one is to be sent.
 abbrev pub Fits : {T I : Type 0} → ItemAction → Option I → Option T → Type 0
 Fits Next None (Some iterator) = Unit {0}
 Fits Send (Some item) (Some iterator) = Unit {0}

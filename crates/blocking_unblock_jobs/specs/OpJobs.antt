@@ -4,15 +4,16 @@ use Rattle.std.specs.Coded.{Coded, code_by, coded×, coded_bool, coded_option}
 use Rattle.blocking_core.specs.Machines.{Machine}
 use Rattle.blocking_core.specs.Ops.{operation_next, operation_after}
 use Rattle.blocking_core.specs.declared.job.op.OpAction.{OpAction}
-use Rattle.blocking_core.specs.declared.job.op.OpAction.TheVariants.{Call, PutResult, Finish, Deliver, Done}
+use Rattle.blocking_core.specs.declared.job.op.OpAction.TheVariants.{Call, PutResult, Finish}
+use Rattle.blocking_core.specs.declared.job.op.OpAction.TheVariants.{Deliver, Done}
 use Rattle.blocking_core.specs.declared.job.op.OpAnswer.{OpAnswer}
 use Rattle.blocking_core.specs.declared.job.op.OpAnswer.TheVariants as by
 use Rattle.blocking_core.specs.contracts.job.op.OpAction.{the_row}
 use Rattle.blocking_pool.specs.declared.pool.job.JobStep.{JobStep}
 use Rattle.blocking_pool.specs.declared.pool.job.JobStep.TheVariants as step
 
--- the job of an operation: what it does next, the operation until it is called, its handle until that is given back, and the result from
--- the call until it is put
+-- the job of an operation: what it does next, the operation until it is called, its handle until
+-- that is given back, and the result from the call until it is put
 pub record OpSeen (F T R : Type 0) : Type 0 where
   pub core : Machine OpAction
   pub operation : Option F
@@ -22,7 +23,8 @@ pub record OpSeen (F T R : Type 0) : Type 0 where
 abbrev pub op_code : {F T R : Type 0} → Coded F → Coded T → Coded R → Coded (OpSeen F T R)
 op_code {F} {T} {R} operation code gave =
     code_by (OpAction × (Bool × (Option F × (Option T × Option R))))
-    (coded× the_row.coded (coded× coded_bool (coded× (coded_option operation) (coded× (coded_option code) (coded_option gave)))))
+    (coded× the_row.coded (coded× coded_bool
+    (coded× (coded_option operation) (coded× (coded_option code) (coded_option gave)))))
     (λ seen. (seen.core.next, (seen.core.is_waking, (seen.operation, (seen.handle, seen.gave)))))
     (λ parts. record {
       core = record { next = parts.0; is_waking = parts.1.0 };
@@ -45,21 +47,24 @@ told_by Done = step.Done
 told_by next = step.Again
 
 module _ {F T R : Type 0} where
-  -- What becomes of the operation, its result and the handle: the operation is called on the handle and gone, what it gave is kept until
-  -- it is put, and only a finish gives the handle away.
+  -- What becomes of the operation, its result and the handle: the operation is called on the handle
+  -- and gone, what it gave is kept until it is put, and only a finish gives the handle away.
   abbrev pub Hands : (R → Type 0) → OpAnswer → OpSeen F T R → OpSeen F T R → Type 0
-  Hands may_give by.Returned old new = (new.operation ≡ None) × IsSome new.handle × IsSome new.gave × IfSome new.gave may_give
+  Hands may_give by.Returned old new =
+      (new.operation ≡ None) × IsSome new.handle × IsSome new.gave × IfSome new.gave may_give
   Hands may_give (by.ResultPut woke) old new = (new.gave ≡ None) × (new.handle ≡ old.handle)
   Hands may_give (by.Finished woke) old new = new.handle ≡ None
   Hands may_give by.Delivered old new = (new.gave ≡ old.gave) × (new.handle ≡ old.handle)
 
-  -- the machine got one answer, to the action that was next, and what it says of the operation is what came of it
+  -- the machine got one answer, to the action that was next, and what it says of the operation is
+  -- what came of it
   abbrev pub OneAnswer : (R → Type 0) → OpAction → OpSeen F T R → OpSeen F T R → JobStep → Type 0
   OneAnswer may_give action old new told =
       (answer : OpAnswer) × (new.core ≡ operation_after old.core answer) × Answers action answer
       × (told ≡ told_by (operation_next new.core)) × Hands may_give answer old new
 
-  -- What one step does: the machine gets one answer, to the action that was next; a job that is over does nothing.
+  -- What one step does: the machine gets one answer, to the action that was next; a job that is
+  -- over does nothing.
   abbrev pub IsSteppedBy : (R → Type 0) → OpAction → OpSeen F T R → OpSeen F T R → JobStep → Type 0
   IsSteppedBy may_give Done old new told = (new ≡ old) × (told ≡ step.Done)
   IsSteppedBy may_give action old new told = OneAnswer may_give action old new told
@@ -67,9 +72,10 @@ module _ {F T R : Type 0} where
   abbrev pub IsStepped : (R → Type 0) → OpSeen F T R → OpSeen F T R → JobStep → Type 0
   IsStepped may_give old new told = IsSteppedBy may_give (operation_next old.core) old new told
 
--- The job has what its next action is about: the operation until it is called, its handle until that is given back, and a result that
--- the operation may give until it is put.
-abbrev pub Fits : {F T R : Type 0} → (R → Type 0) → OpAction → Option F → Option T → Option R → Type 0
+-- The job has what its next action is about: the operation until it is called, its handle until
+-- that is given back, and a result that the operation may give until it is put.
+abbrev pub Fits : {F T R : Type 0} → (R → Type 0) → OpAction → Option F → Option T → Option R
+    → Type 0
 Fits may_give Call (Some operation) (Some handle) None = Unit {0}
 Fits may_give PutResult None (Some handle) (Some gave) = may_give gave
 Fits may_give Finish None (Some handle) None = Unit {0}

@@ -1,4 +1,5 @@
--- What a job works with, until it is given back, and what it keeps to show that it did what it owed.
+-- What a job works with, until it is given back, and what it keeps to show that it did what it
+-- owed.
 use Rattle.std.specs.Prelude.{Option, Some, None, IsSome}
 
 -- both are there, and so related

@@ -6,7 +6,8 @@ use Rattle.blocking_world_laws.specs.declared.event.Event.{Event}
 use Rattle.blocking_world_laws.specs.declared.event.Moment.{Moment}
 use Rattle.blocking_world_laws.specs.declared.step.Step.{Step}
 
--- the history of a world: the number of its setting, the plan of its starts, and what was seen so far, the newest first
+-- the history of a world: the number of its setting, the plan of its starts, and what was seen so
+-- far, the newest first
 pub record History : Type 0 where
   pub setting : ℕ
   pub plan : List Bool
@@ -18,7 +19,8 @@ pub record WorldValue : Type 0 where
   pub passes : ℕ
   pub turns : ℕ
 
--- whether the poll of an owner is under way, by what was seen: it began, and has neither waited nor replied since
+-- whether the poll of an owner is under way, by what was seen: it began, and has neither waited nor
+-- replied since
 abbrev pub is_poll_under_way : ℕ → List Moment → Bool
 is_poll_under_way h past = not (is_poll_over (under_way (acts_of_owner h (events past))))
 

@@ -7,9 +7,20 @@ use Rattle.blocking_world_copiers.specs.Ties.{IsLawful}
 
 -- an assembly with no job, no task, no owner, no worker and no copier
 abbrev pub first_assembly : ℕ → Assembled
-first_assembly setting = record { parts = record { crew = record { pool = empty_pool setting 1 1; hands = [] }; rows = []; tasks = []; owners = [] }; copiers = []; made = 0 }
+first_assembly setting =
+    record {
+      parts = record {
+        crew = record { pool = empty_pool setting 1 1; hands = [] };
+        rows = [];
+        tasks = [];
+        owners = [];
+      };
+      copiers = [];
+      made = 0;
+    }
 
-begins : (setting : ℕ) (plan : List Bool) → 0 < setting → IsLawful setting plan (first_assembly setting) []
+begins : (setting : ℕ) (plan : List Bool) → 0 < setting
+    → IsLawful setting plan (first_assembly setting) []
 begins setting plan positive =
     let parts = begins_lawful setting plan positive in
     record {
@@ -28,6 +39,8 @@ begins setting plan positive =
       };
     }
 
-pub begun : (setting : ℕ) (plan : List Bool) (w : Assembled) → w ≡ first_assembly setting → 0 < setting → IsLawful w.parts.crew.pool.counts.setting plan w []
+pub begun : (setting : ℕ) (plan : List Bool) (w : Assembled) → w ≡ first_assembly setting
+    → 0 < setting → IsLawful w.parts.crew.pool.counts.setting plan w []
 begun setting plan w is positive =
-    subst (λ (v : Assembled). IsLawful v.parts.crew.pool.counts.setting plan v []) (sym is) (begins setting plan positive)
+    subst (λ (v : Assembled). IsLawful v.parts.crew.pool.counts.setting plan v []) (sym is)
+    (begins setting plan positive)

@@ -14,7 +14,8 @@ use Rattle.blocking_world_state.proofs.laws.Whole as parts
 use Rattle.blocking_world_copiers.specs.Assemblies.{Assembled}
 use Rattle.blocking_world_copiers.specs.Ties.{IsLawful}
 
-module _ (setting : ℕ) (plan : List Bool) (w : Assembled) (past : List Moment) (lawful : IsLawful setting plan w past) where
+module _ (setting : ℕ) (plan : List Bool) (w : Assembled) (past : List Moment)
+    (lawful : IsLawful setting plan w past) where
   -- queued jobs are served
   pub served_now : IsServed past
   served_now = parts.served_now setting plan w.parts past lawful.parts
@@ -32,5 +33,6 @@ module _ (setting : ℕ) (plan : List Bool) (w : Assembled) (past : List Moment)
   acts_is v = parts.acts_is setting plan w.parts past lawful.parts.tied v
 
   -- an owner's poll is under way where it was seen to be
-  pub polls_is : (h : ℕ) → polls_in (slice_get w.parts.owners h) ≡ not (is_poll_over (under_way (acts_of_owner h (events past))))
+  pub polls_is : (h : ℕ) → polls_in (slice_get w.parts.owners h)
+      ≡ not (is_poll_over (under_way (acts_of_owner h (events past))))
   polls_is h = parts.polls_is setting plan w.parts past lawful.parts.tied h

@@ -1,25 +1,30 @@
 -- The parts of a world with its copiers, and what each step does to them.
-use Rattle.std.specs.Prelude.{◌≡◌, ℕ, ◌+◌, ◌&&◌, ◌==◌, nat_lt, not, Bool, true, false, List, [], ◌∷◌, length, slice_get, refl, Option, Some, None}
+use Rattle.std.specs.Prelude.{◌≡◌, ℕ, ◌+◌, ◌&&◌, ◌==◌, nat_lt, not, Bool, true, false, List, []}
+use Rattle.std.specs.Prelude.{◌∷◌, length, slice_get, refl, Option, Some, None}
 use Rattle.std.specs.Coded.{Coded, code_by, coded×, coded_list, coded_ℕ}
 use Rattle.blocking_world_pool.specs.Moves.{NeverAsked}
 use Rattle.blocking_world_laws.specs.declared.event.Act.{Act}
-use Rattle.blocking_world_laws.specs.declared.event.Act.TheVariants.{Asked, Linked, Copied, CopyFailed, NoAction}
+use Rattle.blocking_world_laws.specs.declared.event.Act.TheVariants.{Asked, Linked, Copied}
+use Rattle.blocking_world_laws.specs.declared.event.Act.TheVariants.{CopyFailed, NoAction}
 use Rattle.blocking_world_laws.specs.declared.event.Event.{Event}
 use Rattle.blocking_world_laws.specs.declared.event.Party.{Party}
 use Rattle.blocking_world_laws.specs.declared.event.Party.TheVariants.{Owner as ByOwner, Pool}
 use Rattle.blocking_world_laws.specs.declared.step.HandleCall.{HandleCall}
 use Rattle.blocking_world_laws.specs.declared.step.HandleCall.TheVariants.{Read}
 use Rattle.blocking_world_laws.specs.declared.step.Step.{Step}
-use Rattle.blocking_world_laws.specs.declared.step.Step.TheVariants.{Ask, Own, DropOwner, Link, Copy}
+use Rattle.blocking_world_laws.specs.declared.step.Step.TheVariants.{Ask, Own, DropOwner, Link}
+use Rattle.blocking_world_laws.specs.declared.step.Step.TheVariants.{Copy}
 use Rattle.blocking_world_state.specs.Carried.{bytes_to_come as bytes_of_parts}
 use Rattle.blocking_world_state.specs.Moves.{CopierMoves, Steps, may_ask_in, rests_in}
 use Rattle.blocking_world_state.specs.Parts.{Parts, parts_code}
-use Rattle.blocking_world_copiers.specs.Copiers.{CopierState, new_copier, next_of, next_bytes, copier_at, is_lent, hear_first, without_number}
+use Rattle.blocking_world_copiers.specs.Copiers.{CopierState, new_copier, next_of, next_bytes}
+use Rattle.blocking_world_copiers.specs.Copiers.{copier_at, is_lent, hear_first, without_number}
 use Rattle.blocking_world_copiers.specs.contracts.copier.Copier.{the_row as rows}
 use Rattle.blocking_world_copiers.specs.declared.copier.CopierNext.{CopierNext}
 use Rattle.blocking_world_copiers.specs.declared.copier.CopierNext.TheVariants as next
 
--- The parts of a world, the copiers that have told no end, the newest first, and how many were made.
+-- The parts of a world, the copiers that have told no end, the newest first, and how many were
+-- made.
 pub record Assembled : Type 0 where
   pub parts : Parts
   pub copiers : List CopierState
@@ -27,7 +32,8 @@ pub record Assembled : Type 0 where
 
 abbrev pub assembly_code : Coded Assembled
 assembly_code =
-    code_by (Parts × (List CopierState × ℕ)) (coded× parts_code (coded× (coded_list rows.coded) coded_ℕ)) (λ w. (w.parts, (w.copiers, w.made)))
+    code_by (Parts × (List CopierState × ℕ)) (coded× parts_code
+    (coded× (coded_list rows.coded) coded_ℕ)) (λ w. (w.parts, (w.copiers, w.made)))
     (λ parts. record { parts = parts.0; copiers = parts.1.0; made = parts.1.1 }) (λ _. refl)
 
 -- ---- which steps have an action
@@ -59,13 +65,16 @@ pub record AllStay (w new : Assembled) : Type 0 where
   pub copiers : new.copiers ≡ w.copiers
   pub made : new.made ≡ w.made
 
--- at this step this is told, and nothing becomes of the parts or of an owner but what the act says of it
-pub record Tells (step : Step) (who : Party) (act : Act) (w : Assembled) (e : Event) (new : Assembled) : Type 0 where
+-- at this step this is told, and nothing becomes of the parts or of an owner but what the act says
+-- of it
+pub record Tells (step : Step) (who : Party) (act : Act) (w : Assembled) (e : Event)
+    (new : Assembled) : Type 0 where
   pub moves : CopierMoves step who act w.parts e new.parts
   pub stays : AllStay w new
 
 -- the parts take the step
-pub record Takes (may_answer : ℕ → Bool → Type 0) (step : Step) (w : Assembled) (e : Event) (new : Assembled) : Type 0 where
+pub record Takes (may_answer : ℕ → Bool → Type 0) (step : Step) (w : Assembled) (e : Event)
+    (new : Assembled) : Type 0 where
   pub steps : Steps may_answer step w.parts e new.parts
   pub stays : AllStay w new
 
@@ -75,7 +84,8 @@ IfLent true may_answer h step w e new = Tells step (ByOwner h) NoAction w e new
 IfLent false may_answer h step w e new = Takes may_answer step w e new
 
 -- the poll of an owner takes its next action, and the copier to which it is lent hears of it
-pub record Polls (may_answer : ℕ → Bool → Type 0) (h : ℕ) (w : Assembled) (e : Event) (new : Assembled) : Type 0 where
+pub record Polls (may_answer : ℕ → Bool → Type 0) (h : ℕ) (w : Assembled) (e : Event)
+    (new : Assembled) : Type 0 where
   pub steps : Steps may_answer (Own h) w.parts e new.parts
   pub copiers : new.copiers ≡ hear_first h e.act w.copiers
   pub made : new.made ≡ w.made
@@ -116,8 +126,10 @@ CopiesAt k (Some c) w e new = IfCopies (may_copy_in w c) k c w e new
 
 -- What a step does, and is seen to do.
 abbrev pub Does : (ℕ → Bool → Type 0) → Step → Assembled → Event → Assembled → Type 0
-Does may_answer (Ask h call) w e new = IfLent (is_lent h w.copiers) may_answer h (Ask h call) w e new
-Does may_answer (DropOwner h) w e new = IfLent (is_lent h w.copiers) may_answer h (DropOwner h) w e new
+Does may_answer (Ask h call) w e new =
+    IfLent (is_lent h w.copiers) may_answer h (Ask h call) w e new
+Does may_answer (DropOwner h) w e new =
+    IfLent (is_lent h w.copiers) may_answer h (DropOwner h) w e new
 Does may_answer (Own h) w e new = Polls may_answer h w e new
 Does may_answer (Link a b n) w e new = IfLinks (may_link_in w a b n) a b n w e new
 Does may_answer (Copy k) w e new = CopiesAt k (copier_at k w.copiers) w e new

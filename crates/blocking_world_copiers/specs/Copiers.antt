@@ -1,5 +1,6 @@
 -- Copiers as contracts see them: what each hears, and what it does next.
-use Rattle.std.specs.Prelude.{◌≡◌, ℕ, ◌-◌, ◌==◌, ◌||◌, if◌then◌else◌, Bool, true, false, List, [], ◌∷◌, take, drop, filter, not, Option, Some, None}
+use Rattle.std.specs.Prelude.{◌≡◌, ℕ, ◌-◌, ◌==◌, ◌||◌, if◌then◌else◌, Bool, true, false, List, []}
+use Rattle.std.specs.Prelude.{◌∷◌, take, drop, filter, not, Option, Some, None}
 use Rattle.blocking_core.specs.Copying.{CopyMachine, new_copy, copy_after}
 use Rattle.blocking_core.specs.declared.copy.CopyAction.{CopyAction}
 use Rattle.blocking_core.specs.declared.copy.CopyAction.TheVariants as action
@@ -9,7 +10,8 @@ use Rattle.blocking_core.specs.declared.copy.CopyEnd.TheVariants as end
 use Rattle.blocking_world_laws.specs.Lent.{Copier}
 use Rattle.blocking_world_laws.specs.Copies.{CopierAction, AskReader, AskWriter, Tells}
 use Rattle.blocking_world_laws.specs.declared.event.Act.{Act}
-use Rattle.blocking_world_laws.specs.declared.event.Act.TheVariants.{Got, Replied, Copied, CopyFailed}
+use Rattle.blocking_world_laws.specs.declared.event.Act.TheVariants.{Got, Replied, Copied}
+use Rattle.blocking_world_laws.specs.declared.event.Act.TheVariants.{CopyFailed}
 use Rattle.blocking_world_laws.specs.declared.event.CopySide.TheVariants as side
 use Rattle.blocking_world_laws.specs.declared.event.Reply.{Reply}
 use Rattle.blocking_world_laws.specs.declared.event.Reply.TheVariants as reply

@@ -1,4 +1,5 @@
--- What can't be. A case that can't be is refused by one of these at once, where a search would look through all that is known there.
+-- What can't be. A case that can't be is refused by one of these at once, where a search would look
+-- through all that is known there.
 use Rattle.std.proofs.Common.{◌≡◌, true, false, Option, Some, None}
 
 -- nothing isn't something

@@ -24,22 +24,40 @@ pub use Rattle.blocking_core.specs.declared.unblock.State.{State}
 pub use Rattle.blocking_pool.specs.declared.pool.answer.Refusal.{Refusal}
 pub use Rattle.blocking_pool.specs.declared.pool.answer.Woke.{Woke}
 pub use Rattle.blocking_world_laws.specs.declared.event.Act.{Act}
-pub use Rattle.blocking_world_laws.specs.declared.event.Act.TheVariants.{Accepted, Answered, Asked, Back, Drained, FillShut, Filled, Finished, GaveUp, Got, GotEnd, GotItem, HolderDropped, HolderWoken, JobClosed, JobParked, JobWoken, Lost, Made, OwnerClosed, Peeked, Put, Refused, Replied, ResultGot, ResultPut, RoomFree, RoomShut, Taken as TakenOut, TaskCancelled, TaskDetached, TaskGot, TaskGotNone, Waits}
+pub use Rattle.blocking_world_laws.specs.declared.event.Act.TheVariants.{Accepted, Answered, Asked}
+pub use Rattle.blocking_world_laws.specs.declared.event.Act.TheVariants.{Back, Drained, FillShut}
+pub use Rattle.blocking_world_laws.specs.declared.event.Act.TheVariants.{Filled, Finished, GaveUp}
+pub use Rattle.blocking_world_laws.specs.declared.event.Act.TheVariants.{Got, GotEnd, GotItem}
+pub use Rattle.blocking_world_laws.specs.declared.event.Act.TheVariants.{HolderDropped, HolderWoken}
+pub use Rattle.blocking_world_laws.specs.declared.event.Act.TheVariants.{JobClosed, JobParked}
+pub use Rattle.blocking_world_laws.specs.declared.event.Act.TheVariants.{JobWoken, Lost, Made}
+pub use Rattle.blocking_world_laws.specs.declared.event.Act.TheVariants.{OwnerClosed, Peeked, Put}
+pub use Rattle.blocking_world_laws.specs.declared.event.Act.TheVariants.{Refused, Replied}
+pub use Rattle.blocking_world_laws.specs.declared.event.Act.TheVariants.{ResultGot, ResultPut}
+pub use Rattle.blocking_world_laws.specs.declared.event.Act.TheVariants.{RoomFree, RoomShut}
+pub use Rattle.blocking_world_laws.specs.declared.event.Act.TheVariants.{Taken as TakenOut}
+pub use Rattle.blocking_world_laws.specs.declared.event.Act.TheVariants.{TaskCancelled}
+pub use Rattle.blocking_world_laws.specs.declared.event.Act.TheVariants.{TaskDetached, TaskGot}
+pub use Rattle.blocking_world_laws.specs.declared.event.Act.TheVariants.{TaskGotNone, Waits}
 pub use Rattle.blocking_world_laws.specs.declared.event.Event.{Event}
 pub use Rattle.blocking_world_laws.specs.declared.event.HolderWaker.{HolderWaker}
 pub use Rattle.blocking_world_laws.specs.declared.event.Moment.{Moment}
 pub use Rattle.blocking_world_laws.specs.declared.event.Party.{Party}
-pub use Rattle.blocking_world_laws.specs.declared.event.Party.TheVariants.{Owner as ByOwner, Pool, Task as ByTask, Worker}
+pub use Rattle.blocking_world_laws.specs.declared.event.Party.TheVariants.{Owner as ByOwner, Pool}
+pub use Rattle.blocking_world_laws.specs.declared.event.Party.TheVariants.{Task as ByTask, Worker}
 pub use Rattle.blocking_world_laws.specs.declared.event.Reply.{Reply as Told}
 pub use Rattle.blocking_world_laws.specs.declared.step.Answer.{Answer}
-pub use Rattle.blocking_world_laws.specs.declared.step.Answer.TheVariants.{Failed, Fine, Gave, Item, NoItem, Number}
+pub use Rattle.blocking_world_laws.specs.declared.step.Answer.TheVariants.{Failed, Fine, Gave, Item}
+pub use Rattle.blocking_world_laws.specs.declared.step.Answer.TheVariants.{NoItem, Number}
 pub use Rattle.blocking_world_laws.specs.declared.step.HandleCall.{HandleCall}
 pub use Rattle.blocking_world_laws.specs.declared.step.HandleCall.TheVariants.{IntoInner}
 pub use Rattle.blocking_world_laws.specs.declared.step.TaskCall.{TaskCall}
-pub use Rattle.blocking_world_laws.specs.declared.step.TaskCall.TheVariants.{Cancel, Detach, Drop, Poll}
+pub use Rattle.blocking_world_laws.specs.declared.step.TaskCall.TheVariants.{Cancel, Detach, Drop}
+pub use Rattle.blocking_world_laws.specs.declared.step.TaskCall.TheVariants.{Poll}
 pub use Rattle.blocking_world_holders.specs.declared.job.SessionJob.{SessionJob}
 pub use Rattle.blocking_world_holders.specs.declared.owner.OwnerNext.{OwnerNext}
-pub use Rattle.blocking_world_holders.specs.declared.owner.OwnerNext.TheVariants.{Acts as NextActs, Rests}
+pub use Rattle.blocking_world_holders.specs.declared.owner.OwnerNext.TheVariants.{Acts as NextActs}
+pub use Rattle.blocking_world_holders.specs.declared.owner.OwnerNext.TheVariants.{Rests}
 pub use Rattle.blocking_world_holders.specs.declared.owner.OwnerStage.{OwnerStage}
 pub use Rattle.blocking_world_holders.specs.declared.owner.PollEnd.{PollEnd}
 pub use Rattle.blocking_world_holders.specs.declared.passage.Passage.TheVariants.{Bytes}

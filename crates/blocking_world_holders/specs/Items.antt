@@ -6,13 +6,15 @@ use Rattle.blocking_core.specs.declared.job.item.ItemAction.{ItemAction}
 use Rattle.blocking_core.specs.declared.job.item.ItemAction.TheVariants as item
 use Rattle.blocking_core.specs.declared.job.item.ItemAnswer.{ItemAnswer}
 use Rattle.blocking_core.specs.declared.job.item.ItemAnswer.TheVariants as by
-use Rattle.blocking_world_laws.specs.JobTable.{Streaming, JobAction, AskItem, SendItem, CloseEnd, Finish, WakeHolder, Over, next_but_wake, fault}
+use Rattle.blocking_world_laws.specs.JobTable.{Streaming, JobAction, AskItem, SendItem, CloseEnd}
+use Rattle.blocking_world_laws.specs.JobTable.{Finish, WakeHolder, Over, next_but_wake, fault}
 use Rattle.blocking_world_laws.specs.declared.event.Act.{Act}
 use Rattle.blocking_world_laws.specs.declared.step.Answer.{Answer}
 use Rattle.blocking_world_laws.specs.declared.step.Answer.TheVariants.{Item, NoItem}
 use Rattle.blocking_world_holders.specs.Reads.{has_waker}
 
--- What the job of an iterator does next, and the item that its handle gave last, 0 before the first. It is in hand until it is sent.
+-- What the job of an iterator does next, and the item that its handle gave last, 0 before the
+-- first. It is in hand until it is sent.
 pub record Progress : Type 0 where
   pub core : Machine ItemAction
   pub item : ℕ

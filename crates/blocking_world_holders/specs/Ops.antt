@@ -6,13 +6,15 @@ use Rattle.blocking_core.specs.declared.job.op.OpAction.{OpAction}
 use Rattle.blocking_core.specs.declared.job.op.OpAction.TheVariants as operation
 use Rattle.blocking_core.specs.declared.job.op.OpAnswer.{OpAnswer}
 use Rattle.blocking_core.specs.declared.job.op.OpAnswer.TheVariants as by
-use Rattle.blocking_world_laws.specs.JobTable.{Operating, JobAction, AskResult, PutResult, Finish, WakeHolder, Over, next_but_wake, fault, number}
+use Rattle.blocking_world_laws.specs.JobTable.{Operating, JobAction, AskResult, PutResult, Finish}
+use Rattle.blocking_world_laws.specs.JobTable.{WakeHolder, Over, next_but_wake, fault, number}
 use Rattle.blocking_world_laws.specs.declared.event.Act.{Act}
 use Rattle.blocking_world_laws.specs.declared.step.Answer.{Answer}
 use Rattle.blocking_world_laws.specs.declared.step.Answer.TheVariants.{Number}
 use Rattle.blocking_world_holders.specs.Reads.{has_waker}
 
--- What the job of an operation does next, and the number that the operation gave, 0 before it did. It is in hand until it is put.
+-- What the job of an operation does next, and the number that the operation gave, 0 before it did.
+-- It is in hand until it is put.
 pub record Progress : Type 0 where
   pub core : Machine OpAction
   pub number : ℕ

@@ -1,20 +1,29 @@
--- What happens to an owner in one step, in the words of its cut: it is asked, its poll acts, the pool answers it, it is dropped, or its
--- job acts.
-use Rattle.std.specs.Prelude.{◌≡◌, ℕ, Bool, true, false, List, slice_get, slice_set, Option, Some, None}
+-- What happens to an owner in one step, in the words of its cut: it is asked, its poll acts, the
+-- pool answers it, it is dropped, or its job acts.
+use Rattle.std.specs.Prelude.{◌≡◌, ℕ, Bool, true, false, List, slice_get, slice_set, Option, Some}
+use Rattle.std.specs.Prelude.{None}
 use Rattle.blocking_core.specs.Pipes.{empty_pipe}
-use Rattle.blocking_world_laws.specs.JobTable.{Kind, WakeHolder, next_of_job, next_but_wake, is_answer, is_over}
+use Rattle.blocking_world_laws.specs.JobTable.{Kind, WakeHolder, next_of_job, next_but_wake}
+use Rattle.blocking_world_laws.specs.JobTable.{is_answer, is_over}
 use Rattle.blocking_world_laws.specs.Jobs.{accepts, holder}
 use Rattle.blocking_world_laws.specs.Seen.{events, acts_of, cut, own, is_in_cut, is_of_job}
 use Rattle.blocking_world_laws.specs.Sessions.{kind_of_job}
 use Rattle.blocking_world_laws.specs.Steps.{is_making}
 use Rattle.blocking_world_laws.specs.declared.event.Act.{Act}
-use Rattle.blocking_world_laws.specs.declared.event.Act.TheVariants.{Made, Asked, Accepted, Refused, JobWoken, HolderDropped, Answered, HolderWoken}
+use Rattle.blocking_world_laws.specs.declared.event.Act.TheVariants.{Made, Asked, Accepted, Refused}
+use Rattle.blocking_world_laws.specs.declared.event.Act.TheVariants.{JobWoken, HolderDropped}
+use Rattle.blocking_world_laws.specs.declared.event.Act.TheVariants.{Answered, HolderWoken}
 use Rattle.blocking_world_laws.specs.declared.event.Event.{Event}
 use Rattle.blocking_world_laws.specs.declared.event.Moment.{Moment}
-use Rattle.blocking_world_laws.specs.declared.event.Party.TheVariants.{Owner as ByOwner, Task as ByTask, Worker}
+use Rattle.blocking_world_laws.specs.declared.event.Party.TheVariants.{Owner as ByOwner}
+use Rattle.blocking_world_laws.specs.declared.event.Party.TheVariants.{Task as ByTask, Worker}
 use Rattle.blocking_world_laws.specs.declared.step.Answer.{Answer}
 use Rattle.blocking_world_laws.specs.declared.step.HandleCall.{HandleCall}
-use Rattle.blocking_world_holders.specs.Owners.{Owner, Did, Worked, capacity_asked, goods_asked, rests, may_ask, is_gone, note_at, next_of, did, worked, owner_after_ask, owner_after_begin, owner_after_refusal, owner_after_delivery, owner_after_drop, give_up_act, owner_after_give_up}
+use Rattle.blocking_world_holders.specs.Owners.{Owner, Did, Worked, capacity_asked, goods_asked}
+use Rattle.blocking_world_holders.specs.Owners.{rests, may_ask, is_gone, note_at, next_of, did}
+use Rattle.blocking_world_holders.specs.Owners.{worked, owner_after_ask, owner_after_begin}
+use Rattle.blocking_world_holders.specs.Owners.{owner_after_refusal, owner_after_delivery}
+use Rattle.blocking_world_holders.specs.Owners.{owner_after_drop, give_up_act, owner_after_give_up}
 use Rattle.blocking_world_holders.specs.SessionJobs.{JobAs, kind_of, action_of}
 use Rattle.blocking_world_holders.specs.declared.job.SessionJob.{SessionJob}
 use Rattle.blocking_world_holders.specs.declared.owner.OwnerNext.TheVariants as next
@@ -72,7 +81,8 @@ abbrev pub delivered : Woke → Option JobNumber → Option Act
 delivered woke None = None
 delivered woke (Some number) = Some (JobWoken number.serial woke)
 
--- what is seen of a step; of some there is nothing to be seen where the owner or the job has nothing of that kind to do
+-- what is seen of a step; of some there is nothing to be seen where the owner or the job has
+-- nothing of that kind to do
 abbrev pub act_of : OwnerStep → Owner → Option Act
 act_of (IsAsked call) owner = Some (Asked call)
 act_of Acts owner = act_in (did owner)
@@ -89,7 +99,8 @@ act_of CallsWaker owner = Some HolderWoken
 abbrev pub owner_after : OwnerStep → Owner → Owner
 owner_after (IsAsked call) owner = owner_after_ask call owner
 owner_after Acts owner = owner_in (did owner) owner
-owner_after (Begins number) owner = owner_after_begin number (goods_asked owner) (empty_pipe (capacity_asked owner)) owner
+owner_after (Begins number) owner =
+    owner_after_begin number (goods_asked owner) (empty_pipe (capacity_asked owner)) owner
 owner_after (IsRefused why) owner = owner_after_refusal why owner
 owner_after (Delivers woke) owner = owner_after_delivery owner
 owner_after IsDropped owner = owner_after_drop owner
@@ -98,7 +109,8 @@ owner_after (IsAnswered job answer) owner = owner
 owner_after GivesUp owner = owner_after_give_up owner
 owner_after CallsWaker owner = owner
 
--- Whether there may be such a step of an owner, where its job is of this kind and has done this so far.
+-- Whether there may be such a step of an owner, where its job is of this kind and has done this so
+-- far.
 abbrev pub MayTake : OwnerStep → Owner → Kind → List Act → Type 0
 MayTake (IsAsked call) owner kind acts = may_ask owner call ≡ true
 MayTake Acts owner kind acts = Unit {0}
@@ -107,8 +119,10 @@ MayTake (IsRefused why) owner kind acts = next_of owner ≡ next.Begins
 MayTake (Delivers woke) owner kind acts = Unit {0}
 MayTake IsDropped owner kind acts = rests owner ≡ true
 MayTake (Works job) owner kind acts = (kind ≡ kind_of job) × JobAs job acts
-MayTake (IsAnswered job answer) owner kind acts = (kind ≡ kind_of job) × JobAs job acts × (is_answer (action_of job) answer ≡ true)
-MayTake GivesUp owner kind acts = (is_gone owner.stage ≡ true) × (is_over (next_but_wake kind acts) ≡ false)
+MayTake (IsAnswered job answer) owner kind acts =
+    (kind ≡ kind_of job) × JobAs job acts × (is_answer (action_of job) answer ≡ true)
+MayTake GivesUp owner kind acts =
+    (is_gone owner.stage ≡ true) × (is_over (next_but_wake kind acts) ≡ false)
 MayTake CallsWaker owner kind acts = next_of_job kind acts ≡ WakeHolder
 
 -- ---- events
@@ -153,8 +167,8 @@ event_for false h v s act first growth = by_owner h act first growth
 abbrev pub event_by : OwnerStep → ℕ → ℕ → ℕ → Act → ℕ → Growth → Event
 event_by step h v s act first growth = event_for (is_of_its_job step) h v s act first growth
 
--- An event of no owner: it stands in the cut of none, and makes none. If it is an act of a job, a task holds that; if it accepts one,
--- nobody held that, and no owner does.
+-- An event of no owner: it stands in the cut of none, and makes none. If it is an act of a job, a
+-- task holds that; if it accepts one, nobody held that, and no owner does.
 pub record IsAside (past : List Moment) (e : Event) : Type 0 where
   pub out : (h : ℕ) → is_in_cut h e ≡ false
   pub none_made : is_making e.act ≡ false
@@ -181,7 +195,8 @@ IsFresh (Begins number) past = holder past number.serial ≡ None
 IsFresh _ past = Unit {0}
 
 -- Owner h takes a step, or job s of it does, in the hand of worker v; the other owners stay.
-pub record TakesStep (past : List Moment) (old : List Owner) (e : Event) (new : List Owner) : Type 0 where
+pub record TakesStep (past : List Moment) (old : List Owner) (e : Event) (new : List Owner) :
+    Type 0 where
   pub step : OwnerStep
   pub place : ℕ
   pub job : ℕ
@@ -193,7 +208,8 @@ pub record TakesStep (past : List Moment) (old : List Owner) (e : Event) (new : 
   pub there : slice_get old place ≡ Some owner
   pub held : IsHeld (is_of_its_job step) past place job
   pub fresh : IsFresh step past
-  pub may : MayTake step owner (kind_of_job job (own (cut place (events past)))) (acts_of job (events past))
+  pub may : MayTake step owner (kind_of_job job (own (cut place (events past))))
+      (acts_of job (events past))
   pub act_is : act_of step owner ≡ Some act
   pub event_is : e ≡ event_by step place worker job act first growth
   pub after_is : new ≡ slice_set old place (owner_after step owner)

@@ -1,5 +1,7 @@
--- The machine of an owner, as contracts see it, and what each call of the owner and each act of its job does to it.
-use Rattle.std.specs.Prelude.{◌≡◌, ℕ, ◌==◌, ◌&&◌, ◌||◌, not, if◌then◌else◌, Bool, true, false, List, ◌∷◌, length, Option, Some, None, is_some}
+-- The machine of an owner, as contracts see it, and what each call of the owner and each act of its
+-- job does to it.
+use Rattle.std.specs.Prelude.{◌≡◌, ℕ, ◌==◌, ◌&&◌, ◌||◌, not, if◌then◌else◌, Bool, true, false, List}
+use Rattle.std.specs.Prelude.{◌∷◌, length, Option, Some, None, is_some}
 use Rattle.blocking_core.specs.OwnerCalls.{OwnerMachine, new_poll, owner_next, owner_after}
 use Rattle.blocking_core.specs.Pipes.{Pipe}
 use Rattle.blocking_core.specs.Places.{Met, Served, Waiting, Closed}
@@ -37,10 +39,14 @@ use Rattle.blocking_core.specs.declared.unblock.SessionKind.TheVariants as sessi
 use Rattle.blocking_core.specs.declared.unblock.State.{State}
 use Rattle.blocking_core.specs.declared.unblock.State.TheVariants as state
 use Rattle.blocking_world_laws.specs.JobTable.{Kind}
-use Rattle.blocking_world_laws.specs.Sessions.{default_capacity, kind_of, is_again, is_for_closed, is_into_inner, is_operation}
+use Rattle.blocking_world_laws.specs.Sessions.{default_capacity, kind_of, is_again, is_for_closed}
+use Rattle.blocking_world_laws.specs.Sessions.{is_into_inner, is_operation}
 use Rattle.blocking_world_laws.specs.Seats.{waker_in}
 use Rattle.blocking_world_laws.specs.declared.event.Act.{Act}
-use Rattle.blocking_world_laws.specs.declared.event.Act.TheVariants.{OwnerClosed, Got, GotEnd, Filled, FillShut, Waits, Back, ResultGot, Replied, GaveUp, HolderWoken, GotItem}
+use Rattle.blocking_world_laws.specs.declared.event.Act.TheVariants.{OwnerClosed, Got, GotEnd}
+use Rattle.blocking_world_laws.specs.declared.event.Act.TheVariants.{Filled, FillShut, Waits, Back}
+use Rattle.blocking_world_laws.specs.declared.event.Act.TheVariants.{ResultGot, Replied, GaveUp}
+use Rattle.blocking_world_laws.specs.declared.event.Act.TheVariants.{HolderWoken, GotItem}
 use Rattle.blocking_world_laws.specs.declared.event.Reply.{Reply as Told}
 use Rattle.blocking_world_laws.specs.declared.event.Reply.TheVariants as told
 use Rattle.blocking_world_laws.specs.declared.step.HandleCall.{HandleCall}
@@ -48,7 +54,13 @@ use Rattle.blocking_world_laws.specs.declared.step.HandleCall.TheVariants as han
 use Rattle.blocking_world_holders.specs.Passages.{Goods, OfBytes, OfItems, through, if_piped}
 use Rattle.blocking_world_holders.specs.Reads as reads
 use Rattle.blocking_world_holders.specs.SessionJobs.{new_job}
-use Rattle.blocking_world_holders.specs.Sessions.{Session, Work, goods_of, serial_of, drained, filled, reach, front, session_after_close, session_after_drain, session_after_fill, session_after_look, session_after_give_up, give_up_wakes, streamer_works, work_by, writer_works, received, session_after_receive, session_after_find, seek_works, operation_works}
+use Rattle.blocking_world_holders.specs.Sessions.{Session, Work, goods_of, serial_of, drained}
+use Rattle.blocking_world_holders.specs.Sessions.{filled, reach, front, session_after_close}
+use Rattle.blocking_world_holders.specs.Sessions.{session_after_drain, session_after_fill}
+use Rattle.blocking_world_holders.specs.Sessions.{session_after_look, session_after_give_up}
+use Rattle.blocking_world_holders.specs.Sessions.{give_up_wakes, streamer_works, work_by}
+use Rattle.blocking_world_holders.specs.Sessions.{writer_works, received, session_after_receive}
+use Rattle.blocking_world_holders.specs.Sessions.{session_after_find, seek_works, operation_works}
 use Rattle.blocking_world_holders.specs.Items as streams
 use Rattle.blocking_world_holders.specs.Writes as writes
 use Rattle.blocking_world_holders.specs.Seeks as seeks
@@ -56,7 +68,8 @@ use Rattle.blocking_world_holders.specs.Ops as operations
 use Rattle.blocking_world_holders.specs.declared.job.SessionJob.{SessionJob}
 use Rattle.blocking_world_holders.specs.declared.job.SessionJob.TheVariants as of_job
 use Rattle.blocking_world_holders.specs.declared.owner.OwnerNext.{OwnerNext}
-use Rattle.blocking_world_holders.specs.declared.owner.OwnerNext.TheVariants.{Rests, Begins, Delivers, Acts}
+use Rattle.blocking_world_holders.specs.declared.owner.OwnerNext.TheVariants.{Rests, Begins}
+use Rattle.blocking_world_holders.specs.declared.owner.OwnerNext.TheVariants.{Delivers, Acts}
 use Rattle.blocking_world_holders.specs.declared.owner.OwnerStage.{OwnerStage}
 use Rattle.blocking_world_holders.specs.declared.owner.OwnerStage.TheVariants as stage
 use Rattle.blocking_world_holders.specs.declared.owner.PollEnd.{PollEnd}
@@ -74,8 +87,8 @@ use Rattle.blocking_world_holders.specs.declared.session.Looked.TheVariants as l
 use Rattle.blocking_pool.specs.Jobs.{JobNumber}
 use Rattle.blocking_pool.specs.declared.pool.answer.Refusal.{Refusal}
 
--- An owner: the number of bytes that it was made with, the client whose its jobs are, the call that it was asked last, where it is in its
--- polls, and its last session, if any.
+-- An owner: the number of bytes that it was made with, the client whose its jobs are, the call that
+-- it was asked last, where it is in its polls, and its last session, if any.
 pub record Owner : Type 0 where
   pub capacity : ℕ
   pub client : ℕ
@@ -85,7 +98,13 @@ pub record Owner : Type 0 where
 
 -- an owner that was made with this number of bytes, for this client
 abbrev pub new_owner : ℕ → ℕ → Owner
-new_owner capacity client = record { capacity = capacity; client = client; asked = None; stage = stage.Rests state.Idle poll_end.Replied; session = None }
+new_owner capacity client = record {
+  capacity = capacity;
+  client = client;
+  asked = None;
+  stage = stage.Rests state.Idle poll_end.Replied;
+  session = None;
+}
 
 -- how many bytes or items the pipe of a session of this kind holds
 abbrev pub capacity_of : Owner → Kind → ℕ
@@ -119,7 +138,8 @@ abbrev pub item_in : Option Session → ℕ
 item_in None = 0
 item_in (Some session) = session.item
 
--- a reply, in the words of the laws, where this item or result came out last; there is none for a call that isn't asked once the handle is gone
+-- a reply, in the words of the laws, where this item or result came out last; there is none for a
+-- call that isn't asked once the handle is gone
 abbrev pub reply_as : ℕ → Reply ℕ → Option Told
 reply_as x (reply.Count count) = Some (told.Count count)
 reply_as x reply.Item = Some (told.OneItem x)
@@ -165,8 +185,8 @@ abbrev pub awaits_operation : OwnerStage → Option HandleCall → Bool
 awaits_operation (stage.Rests at end) asked = is_pending end && is_operation asked
 awaits_operation _ asked = false
 
--- whether it may be asked for this: once the handle was asked for for good only for that, and for the result of an operation only where one is
--- pending
+-- whether it may be asked for this: once the handle was asked for for good only for that, and for
+-- the result of an operation only where one is pending
 abbrev pub may_ask : Owner → HandleCall → Bool
 may_ask owner call =
     may_ask_at owner.stage call && (not (is_into_inner owner.asked) || is_into_inner (Some call))
@@ -238,7 +258,10 @@ bytes_in _ = 0
 -- the owner after a poll of it began
 abbrev pub after_ask : HandleCall → OwnerStage → Owner → Owner
 after_ask call (stage.Rests at end) owner =
-    record owner { asked = Some call; stage = stage.Polls (new_poll (poll_call_of (is_for_result end) call) at) }
+    record owner {
+      asked = Some call;
+      stage = stage.Polls (new_poll (poll_call_of (is_for_result end) call) at);
+    }
 after_ask call at owner = owner
 
 abbrev pub owner_after_ask : HandleCall → Owner → Owner
@@ -286,7 +309,8 @@ abbrev pub close_did : OwnerMachine ℕ → Session → Owner → Did
 close_did poll session owner = record {
   act = OwnerClosed (serial_of session.pipe.job_seat);
   owner = record owner {
-    stage = goes_on (owner_after poll (by.Closed (is_some session.pipe.job_seat))) session.pipe.job_seat;
+    stage = goes_on (owner_after poll (by.Closed (is_some session.pipe.job_seat)))
+        session.pipe.job_seat;
     session = Some (session_after_close session);
   };
 }
@@ -302,7 +326,10 @@ drain_did (Served got) poll session owner = record {
 }
 drain_did Waiting poll session owner = record {
   act = Waits;
-  owner = record owner { stage = stage.Rests poll.state poll_end.Waits; session = Some (session_after_drain Waiting session) };
+  owner = record owner {
+    stage = stage.Rests poll.state poll_end.Waits;
+    session = Some (session_after_drain Waiting session);
+  };
 }
 drain_did Closed poll session owner = record {
   act = GotEnd;
@@ -320,7 +347,10 @@ receive_did (Served got) poll session owner = record {
 }
 receive_did Waiting poll session owner = record {
   act = Waits;
-  owner = record owner { stage = stage.Rests poll.state poll_end.Waits; session = Some (session_after_receive Waiting session) };
+  owner = record owner {
+    stage = stage.Rests poll.state poll_end.Waits;
+    session = Some (session_after_receive Waiting session);
+  };
 }
 receive_did Closed poll session owner = record {
   act = GotEnd;
@@ -338,7 +368,10 @@ fill_did bytes (Served went) poll session owner = record {
 }
 fill_did bytes Waiting poll session owner = record {
   act = Waits;
-  owner = record owner { stage = stage.Rests poll.state poll_end.Waits; session = Some (session_after_fill bytes Waiting session) };
+  owner = record owner {
+    stage = stage.Rests poll.state poll_end.Waits;
+    session = Some (session_after_fill bytes Waiting session);
+  };
 }
 fill_did bytes Closed poll session owner = record {
   act = FillShut;
@@ -348,32 +381,58 @@ fill_did bytes Closed poll session owner = record {
 -- the same, where it was asked to write something and has a session
 abbrev pub fill_did_in : OwnerMachine ℕ → Option HandleCall → Option Session → Owner → Option Did
 fill_did_in poll (Some (handle_call.Write (byte ∷ bytes))) (Some session) owner =
-    through OfBytes session.goods (Some (fill_did (byte ∷ bytes) (filled (length (byte ∷ bytes)) session) poll session owner))
+    through OfBytes session.goods
+    (Some (fill_did (byte ∷ bytes) (filled (length (byte ∷ bytes)) session) poll session owner))
 fill_did_in poll asked session owner = None
 
 -- it drops the handle, and its poll is over
 abbrev pub drop_did : OwnerMachine ℕ → Owner → Did
-drop_did poll owner = record { act = Replied told.Okay; owner = record owner { stage = stage.Rests (owner_after poll by.Dropped).state poll_end.Replied } }
+drop_did poll owner = record {
+  act = Replied told.Okay;
+  owner =
+      record owner { stage = stage.Rests (owner_after poll by.Dropped).state poll_end.Replied };
+}
 
 -- how the machine is told that the handle is back: of a seek that went well with where it is
 abbrev pub back_answer : State → Option (Fault ℕ) → ℕ → OwnerAnswer ℕ
 back_answer (state.Lent (session_kind.Seeking goal) end) None left = by.Sought left
 back_answer at why left = by.Back why
 
--- it looks into the slot, and finds this; where the job gave up there is nothing to be found, and nothing is done
+-- it looks into the slot, and finds this; where the job gave up there is nothing to be found, and
+-- nothing is done
 abbrev pub look_did : Looked → OwnerMachine ℕ → Session → Owner → Option Did
 look_did (looked.Handle why) poll session owner =
-    Some (record { act = Back; owner = record owner { stage = stage.Polls (owner_after poll (back_answer poll.state why session.left)); session = Some session } })
+    Some (record {
+      act = Back;
+      owner = record owner {
+        stage = stage.Polls (owner_after poll
+            (back_answer poll.state why session.left));
+        session = Some session;
+      };
+    })
 look_did looked.Nothing poll session owner =
-    Some (record { act = Waits; owner = record owner { stage = stage.Rests poll.state poll_end.Waits; session = Some session } })
+    Some (record {
+      act = Waits;
+      owner = record owner
+          { stage = stage.Rests poll.state poll_end.Waits; session = Some session };
+    })
 look_did looked.Gone poll session owner = None
 
--- it looks for the result of its operation, and finds this: a poll that waits is over; where none will come nothing is done
+-- it looks for the result of its operation, and finds this: a poll that waits is over; where none
+-- will come nothing is done
 abbrev pub find_did : Awaited → OwnerMachine ℕ → Session → Owner → Option Did
 find_did (awaited.Result n) poll session owner =
-    Some (record { act = ResultGot n; owner = record owner { stage = stage.Polls (owner_after poll by.Resulted); session = Some session } })
+    Some (record {
+      act = ResultGot n;
+      owner = record owner
+          { stage = stage.Polls (owner_after poll by.Resulted); session = Some session };
+    })
 find_did awaited.Nothing poll session owner =
-    Some (record { act = Waits; owner = record owner { stage = stage.Rests poll.state poll_end.WaitsForResult; session = Some session } })
+    Some (record {
+      act = Waits;
+      owner = record owner
+          { stage = stage.Rests poll.state poll_end.WaitsForResult; session = Some session };
+    })
 find_did awaited.Gone poll session owner = None
 
 -- where an owner is once its poll has replied: no more, if the handle was asked for for good
@@ -381,25 +440,36 @@ abbrev pub stage_after_reply : Bool → State → OwnerStage
 stage_after_reply true at = stage.TakenBack
 stage_after_reply false at = stage.Rests at poll_end.Replied
 
--- it replies, and its poll is over; a reply that the laws have no word for is not told, and nothing is done
+-- it replies, and its poll is over; a reply that the laws have no word for is not told, and nothing
+-- is done
 abbrev pub reply_did : Option Told → OwnerMachine ℕ → Owner → Option Did
 reply_did (Some told) poll owner =
-    Some (record { act = Replied told; owner = record owner { stage = stage_after_reply (is_into_inner owner.asked) poll.state } })
+    Some (record {
+      act = Replied told;
+      owner =
+          record owner { stage = stage_after_reply (is_into_inner owner.asked) poll.state };
+    })
 reply_did None poll owner = None
 
 -- what its poll does next at its session
 abbrev pub did_at : OwnerAction ℕ → OwnerMachine ℕ → Session → Owner → Option Did
-did_at action.Close poll session owner = if_piped session.goods (Some (close_did poll session owner))
-did_at (action.Drain most) poll session owner = through OfBytes session.goods (Some (drain_did (drained (reach most session) session) poll session owner))
-did_at action.Receive poll session owner = through OfItems session.goods (Some (receive_did (received session) poll session owner))
+did_at action.Close poll session owner =
+    if_piped session.goods (Some (close_did poll session owner))
+did_at (action.Drain most) poll session owner = through OfBytes session.goods
+    (Some (drain_did (drained (reach most session) session) poll session owner))
+did_at action.Receive poll session owner =
+    through OfItems session.goods (Some (receive_did (received session) poll session owner))
 did_at action.PollSlot poll session owner =
-    look_did (looked_as session.slot.content) poll (session_after_look session.slot.content session) owner
+    look_did (looked_as session.slot.content) poll (session_after_look session.slot.content session)
+    owner
 did_at action.PollResult poll session owner =
-    find_did (awaited_as session.result.content) poll (session_after_find session.result.content session) owner
+    find_did (awaited_as session.result.content) poll
+    (session_after_find session.result.content session) owner
 did_at _ poll session owner = None
 
 abbrev pub did_in : OwnerAction ℕ → OwnerMachine ℕ → Option Session → Owner → Option Did
-did_in (action.Reply reply) poll session owner = reply_did (reply_as (item_in session) reply) poll owner
+did_in (action.Reply reply) poll session owner =
+    reply_did (reply_as (item_in session) reply) poll owner
 did_in (action.Fill most) poll session owner = fill_did_in poll owner.asked session owner
 did_in action.DropHandle poll session owner = Some (drop_did poll owner)
 did_in action poll None owner = None
@@ -413,7 +483,8 @@ did_by _ owner = None
 abbrev pub did : Owner → Option Did
 did owner = did_by owner.stage owner
 
--- the answer of a call by which an owner may act, and what it leaves: where it has no such act nothing changes
+-- the answer of a call by which an owner may act, and what it leaves: where it has no such act
+-- nothing changes
 abbrev pub IsDid : Option Did → Owner → Option Act → Owner → Type 0
 IsDid None owner seen new = (seen ≡ None) × (new ≡ owner)
 IsDid (Some done) owner seen new = (seen ≡ Some done.act) × (new ≡ done.owner)
@@ -435,7 +506,15 @@ goods_asked owner = goods_of (kind_of owner.asked)
 abbrev pub after_begin : JobNumber → Goods → Pipe ℕ (Unit {0}) → OwnerStage → Owner → Owner
 after_begin number goods pipe (stage.Polls poll) owner = record owner {
   stage = stage.Polls (owner_after poll by.Begun);
-  session = Some (record { number = number; goods = goods; item = 0; pipe = pipe; result = empty_slot; slot = empty_slot; left = 0 });
+  session = Some (record {
+    number = number;
+    goods = goods;
+    item = 0;
+    pipe = pipe;
+    result = empty_slot;
+    slot = empty_slot;
+    left = 0;
+  });
 }
 after_begin number goods pipe _ owner = owner
 
@@ -478,7 +557,11 @@ pub record Worked : Type 0 where
 -- an act of a job at its session
 abbrev pub worked_by : {J : Type 0} → (J → SessionJob) → Option (Work J) → Owner → Option Worked
 worked_by job_of None owner = None
-worked_by job_of (Some work) owner = Some (record { act = work.act; job = job_of work.job; owner = record owner { session = Some work.session } })
+worked_by job_of (Some work) owner = Some (record {
+  act = work.act;
+  job = job_of work.job;
+  owner = record owner { session = Some work.session };
+})
 
 -- a job calls the waker that it took
 abbrev pub calls_waker : SessionJob → Owner → Option Worked
@@ -487,29 +570,35 @@ calls_waker job owner = Some (record { act = HolderWoken; job = job; owner = own
 -- what a job that reads does next at its session
 abbrev pub read_in : ReadAction → Option Session → reads.Progress → Owner → Option Worked
 read_in next None job owner = None
-read_in next (Some session) job owner = worked_by of_job.Read (through OfBytes session.goods (work_by next job session)) owner
+read_in next (Some session) job owner =
+    worked_by of_job.Read (through OfBytes session.goods (work_by next job session)) owner
 
 -- what it does next: it calls the waker that it took, or meets its owner
 abbrev pub read_as : ReadAction → reads.Progress → Owner → Option Worked
-read_as read.Deliver job owner = calls_waker (of_job.Read (reads.progress_with job job_by.Delivered)) owner
+read_as read.Deliver job owner =
+    calls_waker (of_job.Read (reads.progress_with job job_by.Delivered)) owner
 read_as next job owner = read_in next owner.session job owner
 
 -- the same of a job that writes
 abbrev pub write_in : WriteAction → Option Session → writes.Progress → Owner → Option Worked
 write_in next None job owner = None
-write_in next (Some session) job owner = worked_by of_job.Write (through OfBytes session.goods (writer_works next job session)) owner
+write_in next (Some session) job owner =
+    worked_by of_job.Write (through OfBytes session.goods (writer_works next job session)) owner
 
 abbrev pub write_as : WriteAction → writes.Progress → Owner → Option Worked
-write_as write.Deliver job owner = calls_waker (of_job.Write (writes.progress_with job wrote.Delivered)) owner
+write_as write.Deliver job owner =
+    calls_waker (of_job.Write (writes.progress_with job wrote.Delivered)) owner
 write_as next job owner = write_in next owner.session job owner
 
 -- the same of a job that runs an iterator
 abbrev pub stream_in : ItemAction → Option Session → streams.Progress → Owner → Option Worked
 stream_in doing None job owner = None
-stream_in doing (Some session) job owner = worked_by of_job.Items (through OfItems session.goods (streamer_works doing job session)) owner
+stream_in doing (Some session) job owner =
+    worked_by of_job.Items (through OfItems session.goods (streamer_works doing job session)) owner
 
 abbrev pub stream_as : ItemAction → streams.Progress → Owner → Option Worked
-stream_as item.Deliver job owner = calls_waker (of_job.Items (streams.progress_with job sent.Delivered)) owner
+stream_as item.Deliver job owner =
+    calls_waker (of_job.Items (streams.progress_with job sent.Delivered)) owner
 stream_as doing job owner = stream_in doing owner.session job owner
 
 -- the same of a job that seeks
@@ -518,16 +607,19 @@ seek_in next None job owner = None
 seek_in next (Some session) job owner = worked_by of_job.Seek (seek_works next job session) owner
 
 abbrev pub seek_as : SeekAction → seeks.Progress → Owner → Option Worked
-seek_as seek.Deliver job owner = calls_waker (of_job.Seek (seeks.progress_with job sought.Delivered)) owner
+seek_as seek.Deliver job owner =
+    calls_waker (of_job.Seek (seeks.progress_with job sought.Delivered)) owner
 seek_as next job owner = seek_in next owner.session job owner
 
 -- the same of a job that runs an operation
 abbrev pub operate_in : OpAction → Option Session → operations.Progress → Owner → Option Worked
 operate_in next None job owner = None
-operate_in next (Some session) job owner = worked_by of_job.Operate (operation_works next job session) owner
+operate_in next (Some session) job owner =
+    worked_by of_job.Operate (operation_works next job session) owner
 
 abbrev pub operate_as : OpAction → operations.Progress → Owner → Option Worked
-operate_as operation.Deliver job owner = calls_waker (of_job.Operate (operations.progress_with job ran.Delivered)) owner
+operate_as operation.Deliver job owner =
+    calls_waker (of_job.Operate (operations.progress_with job ran.Delivered)) owner
 operate_as next job owner = operate_in next owner.session job owner
 
 -- What its job does next, where that is the job's own.
@@ -538,12 +630,16 @@ worked (of_job.Items job) owner = stream_as (item_next job.core) job owner
 worked (of_job.Seek job) owner = seek_as (seek_next job.core) job owner
 worked (of_job.Operate job) owner = operate_as (operation_next job.core) job owner
 
--- the answer of a call by which the job may act, and what it leaves: where it has no such act nothing changes
+-- the answer of a call by which the job may act, and what it leaves: where it has no such act
+-- nothing changes
 abbrev pub IsWorked : Option Worked → SessionJob → Owner → Option Act → SessionJob → Owner → Type 0
-IsWorked None job owner seen new_job new_owner = (seen ≡ None) × (new_job ≡ job) × (new_owner ≡ owner)
-IsWorked (Some done) job owner seen new_job new_owner = (seen ≡ Some done.act) × (new_job ≡ done.job) × (new_owner ≡ done.owner)
+IsWorked None job owner seen new_job new_owner =
+    (seen ≡ None) × (new_job ≡ job) × (new_owner ≡ owner)
+IsWorked (Some done) job owner seen new_job new_owner =
+    (seen ≡ Some done.act) × (new_job ≡ done.job) × (new_owner ≡ done.owner)
 
--- whether a job that gives up takes the owner's waker, and the session then: without one there is none to take
+-- whether a job that gives up takes the owner's waker, and the session then: without one there is
+-- none to take
 abbrev pub giving_up_wakes : Option Session → Bool
 giving_up_wakes None = false
 giving_up_wakes (Some session) = give_up_wakes session

@@ -23,7 +23,8 @@ abbrev pub is_piped : Goods → Bool
 is_piped OfNothing = false
 is_piped _ = true
 
--- what passes here, and the pipe: where there is none, one that stays empty; bytes and items are told by their numbers
+-- what passes here, and the pipe: where there is none, one that stays empty; bytes and items are
+-- told by their numbers
 abbrev pub goods_in : Passage → Goods
 goods_in (passage.Bytes pipe) = OfBytes
 goods_in (passage.Items pipe) = OfItems

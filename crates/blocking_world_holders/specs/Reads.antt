@@ -8,7 +8,9 @@ use Rattle.blocking_core.specs.declared.job.read.ReadAction.{ReadAction}
 use Rattle.blocking_core.specs.declared.job.read.ReadAction.TheVariants as read
 use Rattle.blocking_core.specs.declared.job.read.ReadAnswer.{ReadAnswer}
 use Rattle.blocking_core.specs.declared.job.read.ReadAnswer.TheVariants as by
-use Rattle.blocking_world_laws.specs.JobTable.{Reading, JobAction, AskBytes, FindRoom, PutPiece, CloseEnd, Finish, WakeHolder, Over, next_but_wake, takes_waker, earlier, fault}
+use Rattle.blocking_world_laws.specs.JobTable.{Reading, JobAction, AskBytes, FindRoom, PutPiece}
+use Rattle.blocking_world_laws.specs.JobTable.{CloseEnd, Finish, WakeHolder, Over, next_but_wake}
+use Rattle.blocking_world_laws.specs.JobTable.{takes_waker, earlier, fault}
 use Rattle.blocking_world_laws.specs.declared.event.Act.{Act}
 use Rattle.blocking_world_laws.specs.declared.step.Answer.{Answer}
 use Rattle.blocking_world_laws.specs.declared.step.Answer.TheVariants.{Gave, Failed}
@@ -47,11 +49,13 @@ progress_with job answer = record job { core = read_after job.core answer }
 
 -- the reader gave these bytes
 abbrev pub progress_after_gift : Progress → List ℕ → Progress
-progress_after_gift job bytes = record job { core = read_after job.core (by.Gave (length bytes)); piece = bytes }
+progress_after_gift job bytes =
+    record job { core = read_after job.core (by.Gave (length bytes)); piece = bytes }
 
 -- the reader failed; what is told is the first failure
 abbrev pub progress_after_failure : Progress → ℕ → Progress
-progress_after_failure job error = record job { core = read_after job.core by.Failed; fault = earlier job.fault (Some (Io error)) }
+progress_after_failure job error =
+    record job { core = read_after job.core by.Failed; fault = earlier job.fault (Some (Io error)) }
 
 -- the reader answered so
 abbrev pub progress_after_answer : Progress → Answer → Progress

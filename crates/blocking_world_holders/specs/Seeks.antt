@@ -9,13 +9,15 @@ use Rattle.blocking_core.specs.declared.job.seek.SeekAction.{SeekAction}
 use Rattle.blocking_core.specs.declared.job.seek.SeekAction.TheVariants as seek
 use Rattle.blocking_core.specs.declared.job.seek.SeekAnswer.{SeekAnswer}
 use Rattle.blocking_core.specs.declared.job.seek.SeekAnswer.TheVariants as by
-use Rattle.blocking_world_laws.specs.JobTable.{Seeking, JobAction, AskSeek, Finish, WakeHolder, Over, next_but_wake, earlier, fault, number}
+use Rattle.blocking_world_laws.specs.JobTable.{Seeking, JobAction, AskSeek, Finish, WakeHolder}
+use Rattle.blocking_world_laws.specs.JobTable.{Over, next_but_wake, earlier, fault, number}
 use Rattle.blocking_world_laws.specs.declared.event.Act.{Act}
 use Rattle.blocking_world_laws.specs.declared.step.Answer.{Answer}
 use Rattle.blocking_world_laws.specs.declared.step.Answer.TheVariants.{Number, Failed}
 use Rattle.blocking_world_holders.specs.Reads.{has_waker}
 
--- What the job of a seek does next, where its handle is to go, where it was found to be, once it was, and the job's fault, once it met one.
+-- What the job of a seek does next, where its handle is to go, where it was found to be, once it
+-- was, and the job's fault, once it met one.
 pub record Progress : Type 0 where
   pub core : Machine SeekAction
   pub goal : Position
@@ -51,7 +53,8 @@ progress_after_place job place = record job { core = seek_after job.core by.Soug
 
 -- the handle failed
 abbrev pub progress_after_failure : Progress → ℕ → Progress
-progress_after_failure job error = record job { core = seek_after job.core by.Failed; fault = earlier job.fault (Some (Io error)) }
+progress_after_failure job error =
+    record job { core = seek_after job.core by.Failed; fault = earlier job.fault (Some (Io error)) }
 
 -- the handle answered so
 abbrev pub progress_after_answer : Progress → Answer → Progress

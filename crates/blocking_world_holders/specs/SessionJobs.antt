@@ -1,6 +1,7 @@
 -- The job of a session, of whatever kind.
 use Rattle.std.specs.Prelude.{List}
-use Rattle.blocking_world_laws.specs.JobTable.{Kind, Reading, Writing, Streaming, JobAction, Seeking, Operating}
+use Rattle.blocking_world_laws.specs.JobTable.{Kind, Reading, Writing, Streaming, JobAction}
+use Rattle.blocking_world_laws.specs.JobTable.{Seeking, Operating}
 use Rattle.blocking_world_laws.specs.declared.event.Act.{Act}
 use Rattle.blocking_world_laws.specs.declared.step.Answer.{Answer}
 use Rattle.blocking_world_holders.specs.Reads as reads
@@ -14,7 +15,8 @@ use Rattle.blocking_world_holders.specs.Seeks.{SeekAs}
 use Rattle.blocking_world_holders.specs.Ops as operations
 use Rattle.blocking_world_holders.specs.Ops.{OperationAs}
 use Rattle.blocking_world_holders.specs.declared.job.SessionJob.{SessionJob}
-use Rattle.blocking_world_holders.specs.declared.job.SessionJob.TheVariants.{Read, Write, Items, Seek, Operate}
+use Rattle.blocking_world_holders.specs.declared.job.SessionJob.TheVariants.{Read, Write, Items}
+use Rattle.blocking_world_holders.specs.declared.job.SessionJob.TheVariants.{Seek, Operate}
 
 -- what kind of job it is
 abbrev pub kind_of : SessionJob → Kind
@@ -46,7 +48,8 @@ job_after_answer (Read read) answer = Read (reads.progress_after_answer read ans
 job_after_answer (Write write) answer = Write (writes.progress_after_answer write answer)
 job_after_answer (Items items) answer = Items (streams.progress_after_answer items answer)
 job_after_answer (Seek seek) answer = Seek (seeks.progress_after_answer seek answer)
-job_after_answer (Operate operation) answer = Operate (operations.progress_after_answer operation answer)
+job_after_answer (Operate operation) answer =
+    Operate (operations.progress_after_answer operation answer)
 
 -- A job that didn't give up, by what it has done so far.
 abbrev pub JobAs : SessionJob → List Act → Type 0

@@ -1,8 +1,12 @@
--- A session: where an owner meets the job that was lent its handle, and what each act of the owner and of the job does there.
-use Rattle.std.specs.Prelude.{◌≡◌, ℕ, nat_le, min, max, if◌then◌else◌, Bool, true, false, List, [], ◌∷◌, ◌++◌, length, take, drop, Option, Some, None, is_some}
+-- A session: where an owner meets the job that was lent its handle, and what each act of the owner
+-- and of the job does there.
+use Rattle.std.specs.Prelude.{◌≡◌, ℕ, nat_le, min, max, if◌then◌else◌, Bool, true, false, List, []}
+use Rattle.std.specs.Prelude.{◌∷◌, ◌++◌, length, take, drop, Option, Some, None, is_some}
 use Rattle.blocking_core.specs.Pipes.{Pipe, empty_pipe, room}
-use Rattle.blocking_core.specs.Places.{Met, Served, Waiting, Closed, drain, fill, find_room, hand_in, peek, receive}
-use Rattle.blocking_core.specs.Slots.{Slot, Content, Empty, Full, GivenUp, Abandoned, empty_slot, after_put, put_in, after_give_up, waker_of_give_up}
+use Rattle.blocking_core.specs.Places.{Met, Served, Waiting, Closed, drain, fill, find_room}
+use Rattle.blocking_core.specs.Places.{hand_in, peek, receive}
+use Rattle.blocking_core.specs.Slots.{Slot, Content, Empty, Full, GivenUp, Abandoned, empty_slot}
+use Rattle.blocking_core.specs.Slots.{after_put, put_in, after_give_up, waker_of_give_up}
 use Rattle.blocking_core.specs.declared.io.Fault.{Fault}
 use Rattle.blocking_core.specs.declared.job.item.ItemAction.{ItemAction}
 use Rattle.blocking_core.specs.declared.job.item.ItemAction.TheVariants as item
@@ -15,7 +19,8 @@ use Rattle.blocking_core.specs.declared.job.read.ReadAnswer.TheVariants as by
 use Rattle.blocking_core.specs.declared.job.write.WriteAction.{WriteAction}
 use Rattle.blocking_core.specs.declared.job.write.WriteAction.TheVariants as write
 use Rattle.blocking_core.specs.declared.job.write.WriteAnswer.TheVariants as wrote
-use Rattle.blocking_world_laws.specs.JobTable.{Kind, Streaming, piece as largest_piece, Seeking, Operating}
+use Rattle.blocking_world_laws.specs.JobTable.{Kind, Streaming, piece as largest_piece, Seeking}
+use Rattle.blocking_world_laws.specs.JobTable.{Operating}
 use Rattle.blocking_core.specs.declared.job.seek.SeekAction.{SeekAction}
 use Rattle.blocking_core.specs.declared.job.seek.SeekAction.TheVariants as seek
 use Rattle.blocking_core.specs.declared.job.seek.SeekAnswer.TheVariants as sought
@@ -25,8 +30,10 @@ use Rattle.blocking_core.specs.declared.job.op.OpAnswer.TheVariants as ran
 use Rattle.blocking_world_laws.specs.Places.{seen_room, seen_put, seen_peek}
 use Rattle.blocking_world_laws.specs.Seats.{waker_in}
 use Rattle.blocking_world_laws.specs.declared.event.Act.{Act}
-use Rattle.blocking_world_laws.specs.declared.event.Act.TheVariants.{Taken, JobClosed, ResultPut, Finished}
-use Rattle.blocking_world_holders.specs.Passages.{Goods, OfBytes, OfItems, closed_by_owner, closed_by_job, OfNothing}
+use Rattle.blocking_world_laws.specs.declared.event.Act.TheVariants.{Taken, JobClosed, ResultPut}
+use Rattle.blocking_world_laws.specs.declared.event.Act.TheVariants.{Finished}
+use Rattle.blocking_world_holders.specs.Passages.{Goods, OfBytes, OfItems, closed_by_owner}
+use Rattle.blocking_world_holders.specs.Passages.{closed_by_job, OfNothing}
 use Rattle.blocking_world_holders.specs.Reads.{Progress, progress_with}
 use Rattle.blocking_world_holders.specs.Items as streams
 use Rattle.blocking_world_holders.specs.Writes as writes
@@ -34,9 +41,11 @@ use Rattle.blocking_world_holders.specs.Seeks as seeks
 use Rattle.blocking_world_holders.specs.Ops as operations
 use Rattle.blocking_pool.specs.Jobs.{JobNumber}
 
--- A session: the number of its job, what passes through its pipe, the item that came out of it last, or the result of its operation, 0 before
--- the first, which is kept until it is told, the pipe itself, the place in which the result of its operation comes, the slot in which the handle
--- comes back with the fault of the job, and beside it where a seek left the handle. Wakers are told as units.
+-- A session: the number of its job, what passes through its pipe, the item that came out of it
+-- last, or the result of its operation, 0 before the first, which is kept until it is told, the
+-- pipe itself, the place in which the result of its operation comes, the slot in which the handle
+-- comes back with the fault of the job, and beside it where a seek left the handle. Wakers are told
+-- as units.
 pub record Session : Type 0 where
   pub number : JobNumber
   pub goods : Goods
@@ -56,7 +65,15 @@ goods_of kind = OfBytes
 -- a session that begins, with this job and a pipe for so many bytes or items
 abbrev pub new_session : JobNumber → Goods → ℕ → Session
 new_session number goods capacity =
-    record { number = number; goods = goods; item = 0; pipe = empty_pipe capacity; result = empty_slot; slot = empty_slot; left = 0 }
+    record {
+      number = number;
+      goods = goods;
+      item = 0;
+      pipe = empty_pipe capacity;
+      result = empty_slot;
+      slot = empty_slot;
+      left = 0;
+    }
 
 -- ---- its owner acts
 
@@ -69,19 +86,28 @@ serial_of (Some number) = Some number.serial
 abbrev pub session_after_close : Session → Session
 session_after_close session = record session { pipe = closed_by_owner session.pipe }
 
--- how many bytes come out where the owner wants at most so many, one at least: as many as are inside
+-- how many bytes come out where the owner wants at most so many, one at least: as many as are
+-- inside
 abbrev pub reach : ℕ → Session → ℕ
 reach most session = min (max 1 most) (length session.pipe.items)
 
--- what the owner finds that drains the pipe, by how many bytes come out; it looks for one also where nothing is inside
+-- what the owner finds that drains the pipe, by how many bytes come out; it looks for one also
+-- where nothing is inside
 abbrev pub drained : ℕ → Session → Met (List ℕ × Option JobNumber)
-drained count session = drain (max 1 count) session.pipe.items session.pipe.is_job_open session.pipe.job_seat
+drained count session =
+    drain (max 1 count) session.pipe.items session.pipe.is_job_open session.pipe.job_seat
 
 -- the session after that
 abbrev pub session_after_drain : Met (List ℕ × Option JobNumber) → Session → Session
 session_after_drain (Served found) session =
-    record session { pipe = record session.pipe { items = drop (length found.0) session.pipe.items; job_seat = None } }
-session_after_drain Waiting session = record session { pipe = record session.pipe { owner_seat = Some tt } }
+    record session {
+      pipe = record session.pipe {
+        items = drop (length found.0) session.pipe.items;
+        job_seat = None;
+      };
+    }
+session_after_drain Waiting session =
+    record session { pipe = record session.pipe { owner_seat = Some tt } }
 session_after_drain Closed session = session
 
 -- what the owner finds that receives an item
@@ -91,26 +117,36 @@ received session = receive session.pipe.items session.pipe.is_job_open session.p
 -- the session after that
 abbrev pub session_after_receive : Met (ℕ × Option JobNumber) → Session → Session
 session_after_receive (Served found) session =
-    record session { item = found.0; pipe = record session.pipe { items = drop 1 session.pipe.items; job_seat = None } }
-session_after_receive Waiting session = record session { pipe = record session.pipe { owner_seat = Some tt } }
+    record session {
+      item = found.0;
+      pipe = record session.pipe { items = drop 1 session.pipe.items; job_seat = None };
+    }
+session_after_receive Waiting session =
+    record session { pipe = record session.pipe { owner_seat = Some tt } }
 session_after_receive Closed session = session
 
--- the session after its owner looked into the slot: the handle leaves it, or the owner is seated where it may still come
+-- the session after its owner looked into the slot: the handle leaves it, or the owner is seated
+-- where it may still come
 abbrev pub session_after_look : Content (Option (Fault ℕ)) → Session → Session
 session_after_look Empty session = record session { slot = record session.slot { seat = Some tt } }
-session_after_look (Full why) session = record session { slot = record session.slot { content = Empty } }
+session_after_look (Full why) session =
+    record session { slot = record session.slot { content = Empty } }
 session_after_look GivenUp session = session
 session_after_look (Abandoned true) session = session
-session_after_look (Abandoned false) session = record session { slot = record session.slot { seat = Some tt } }
+session_after_look (Abandoned false) session =
+    record session { slot = record session.slot { seat = Some tt } }
 
--- the session after its owner looked for the result of its operation: that leaves its place, and is kept; or the owner is seated there where it
--- may still come
+-- the session after its owner looked for the result of its operation: that leaves its place, and is
+-- kept; or the owner is seated there where it may still come
 abbrev pub session_after_find : Content ℕ → Session → Session
-session_after_find Empty session = record session { result = record session.result { seat = Some tt } }
-session_after_find (Full n) session = record session { item = n; result = record session.result { content = Empty } }
+session_after_find Empty session =
+    record session { result = record session.result { seat = Some tt } }
+session_after_find (Full n) session =
+    record session { item = n; result = record session.result { content = Empty } }
 session_after_find GivenUp session = session
 session_after_find (Abandoned true) session = session
-session_after_find (Abandoned false) session = record session { result = record session.result { seat = Some tt } }
+session_after_find (Abandoned false) session =
+    record session { result = record session.result { seat = Some tt } }
 
 -- what the owner finds that fills the pipe with so many bytes
 abbrev pub filled : ℕ → Session → Met (ℕ × Option JobNumber)
@@ -119,8 +155,14 @@ filled count session = fill count (room session.pipe) session.pipe.is_job_open s
 -- the session after it filled the pipe with these
 abbrev pub session_after_fill : List ℕ → Met (ℕ × Option JobNumber) → Session → Session
 session_after_fill bytes (Served went) session =
-    record session { pipe = record session.pipe { items = session.pipe.items ++ take went.0 bytes; job_seat = None } }
-session_after_fill bytes Waiting session = record session { pipe = record session.pipe { owner_seat = Some tt } }
+    record session {
+      pipe = record session.pipe {
+        items = session.pipe.items ++ take went.0 bytes;
+        job_seat = None;
+      };
+    }
+session_after_fill bytes Waiting session =
+    record session { pipe = record session.pipe { owner_seat = Some tt } }
 session_after_fill bytes Closed session = session
 
 -- ---- its job acts
@@ -136,12 +178,14 @@ room_answer Waiting = by.Parked
 room_answer Closed = by.Shut
 
 abbrev pub session_after_room : Met ℕ → Session → Session
-session_after_room Waiting session = record session { pipe = record session.pipe { job_seat = Some session.number } }
+session_after_room Waiting session =
+    record session { pipe = record session.pipe { job_seat = Some session.number } }
 session_after_room _ session = session
 
 -- what the job finds that puts these bytes
 abbrev pub found_put : List ℕ → Session → Met (Option (Unit {0}))
-found_put piece session = hand_in (length piece) (room session.pipe) session.pipe.is_owner_open session.pipe.owner_seat
+found_put piece session =
+    hand_in (length piece) (room session.pipe) session.pipe.is_owner_open session.pipe.owner_seat
 
 abbrev pub put_answer : Met (Option (Unit {0})) → ReadAnswer
 put_answer (Served waker) = by.Put (is_some waker)
@@ -149,7 +193,8 @@ put_answer _ = by.Lost
 
 abbrev pub session_after_put : List ℕ → Met (Option (Unit {0})) → Session → Session
 session_after_put piece (Served waker) session =
-    record session { pipe = record session.pipe { items = session.pipe.items ++ piece; owner_seat = None } }
+    record session
+    { pipe = record session.pipe { items = session.pipe.items ++ piece; owner_seat = None } }
 session_after_put piece _ session = session
 
 -- whether these bytes fit
@@ -185,7 +230,8 @@ abbrev pub found_piece : Session → Met (List ℕ)
 found_piece session = peek largest_piece session.pipe.items session.pipe.is_owner_open
 
 abbrev pub session_after_peek : Met (List ℕ) → Session → Session
-session_after_peek Waiting session = record session { pipe = record session.pipe { job_seat = Some session.number } }
+session_after_peek Waiting session =
+    record session { pipe = record session.pipe { job_seat = Some session.number } }
 session_after_peek _ session = session
 
 -- whether so many bytes are inside
@@ -194,7 +240,8 @@ holds count session = nat_le count (length session.pipe.items)
 
 -- the session after so many bytes left its pipe
 abbrev pub session_after_consume : ℕ → Session → Session
-session_after_consume count session = record session { pipe = record session.pipe { items = drop count session.pipe.items; owner_seat = None } }
+session_after_consume count session = record session
+    { pipe = record session.pipe { items = drop count session.pipe.items; owner_seat = None } }
 
 -- ---- the next action of a job that reads, where that is its own
 
@@ -206,7 +253,11 @@ pub record Work (J : Type 0) : Type 0 where
 
 -- what becomes of a job and of its session, by what the job found
 abbrev pub work_at_room : Met ℕ → Progress → Session → Work Progress
-work_at_room met job session = record { act = seen_room met; job = progress_with job (room_answer met); session = session_after_room met session }
+work_at_room met job session = record {
+  act = seen_room met;
+  job = progress_with job (room_answer met);
+  session = session_after_room met session;
+}
 
 abbrev pub work_at_put : Met (Option (Unit {0})) → Progress → Session → Work Progress
 work_at_put met job session = record {
@@ -234,7 +285,8 @@ work_of_finish job session = record {
 -- What it does next at its session, where that is its own to do: a put has to fit.
 abbrev pub work_by : ReadAction → Progress → Session → Option (Work Progress)
 work_by read.FindRoom job session = Some (work_at_room (found_room session) job session)
-work_by (read.Put count) job session = if fits_in job.piece session then Some (work_at_put (found_put job.piece session) job session) else None
+work_by (read.Put count) job session = if fits_in job.piece session
+    then Some (work_at_put (found_put job.piece session) job session) else None
 work_by read.Close job session = Some (work_of_close job session)
 work_by read.Finish job session = Some (work_of_finish job session)
 work_by _ job session = None
@@ -248,7 +300,11 @@ job_after_peek Waiting job = writes.progress_with job wrote.Parked
 job_after_peek Closed job = writes.progress_with job wrote.Drained
 
 abbrev pub work_at_peek : Met (List ℕ) → writes.Progress → Session → Work writes.Progress
-work_at_peek met job session = record { act = seen_peek met; job = job_after_peek met job; session = session_after_peek met session }
+work_at_peek met job session = record {
+  act = seen_peek met;
+  job = job_after_peek met job;
+  session = session_after_peek met session;
+}
 
 -- so many bytes, which its writer took, leave the pipe
 abbrev pub work_of_consume : ℕ → writes.Progress → Session → Work writes.Progress
@@ -274,10 +330,12 @@ writer_finishes job session = record {
   session = session_after_finish (writes.fault_of job.core) session;
 }
 
--- What it does next at its session, where that is its own to do: what it takes out has to be inside.
+-- What it does next at its session, where that is its own to do: what it takes out has to be
+-- inside.
 abbrev pub writer_works : WriteAction → writes.Progress → Session → Option (Work writes.Progress)
 writer_works write.Peek job session = Some (work_at_peek (found_piece session) job session)
-writer_works (write.Consume count) job session = if holds count session then Some (work_of_consume count job session) else None
+writer_works (write.Consume count) job session =
+    if holds count session then Some (work_of_consume count job session) else None
 writer_works write.Close job session = Some (writer_closes job session)
 writer_works write.Finish job session = Some (writer_finishes job session)
 writer_works _ job session = None
@@ -286,7 +344,8 @@ writer_works _ job session = None
 
 -- what the job finds that sends an item
 abbrev pub found_send : Session → Met (Option (Unit {0}))
-found_send session = hand_in 1 (room session.pipe) session.pipe.is_owner_open session.pipe.owner_seat
+found_send session =
+    hand_in 1 (room session.pipe) session.pipe.is_owner_open session.pipe.owner_seat
 
 abbrev pub send_answer : Met (Option (Unit {0})) → ItemAnswer
 send_answer (Served waker) = sent.Sent (is_some waker)
@@ -295,11 +354,14 @@ send_answer Closed = sent.Shut
 
 abbrev pub session_after_send : ℕ → Met (Option (Unit {0})) → Session → Session
 session_after_send x (Served waker) session =
-    record session { pipe = record session.pipe { items = session.pipe.items ++ x ∷ []; owner_seat = None } }
-session_after_send x Waiting session = record session { pipe = record session.pipe { job_seat = Some session.number } }
+    record session
+    { pipe = record session.pipe { items = session.pipe.items ++ x ∷ []; owner_seat = None } }
+session_after_send x Waiting session =
+    record session { pipe = record session.pipe { job_seat = Some session.number } }
 session_after_send x Closed session = session
 
-abbrev pub work_at_send : Met (Option (Unit {0})) → streams.Progress → Session → Work streams.Progress
+abbrev pub work_at_send : Met (Option (Unit {0})) → streams.Progress → Session
+    → Work streams.Progress
 work_at_send met job session = record {
   act = seen_put 1 met;
   job = streams.progress_with job (send_answer met);
@@ -367,12 +429,16 @@ operation_finishes job session = record {
 }
 
 -- What it does next at its session, where that is its own to do.
-abbrev pub operation_works : OpAction → operations.Progress → Session → Option (Work operations.Progress)
+abbrev pub operation_works : OpAction → operations.Progress → Session
+    → Option (Work operations.Progress)
 operation_works operation.PutResult job session = Some (operation_puts job session)
 operation_works operation.Finish job session = Some (operation_finishes job session)
 operation_works _ job session = None
 
--- the answer of a call by which a job may act, and what it leaves: where it has no such act nothing changes
+-- the answer of a call by which a job may act, and what it leaves: where it has no such act nothing
+-- changes
 abbrev pub IsWork : {J : Type 0} → Option (Work J) → J → Session → Option Act → J → Session → Type 0
-IsWork None job session seen new_job new_session = (seen ≡ None) × (new_job ≡ job) × (new_session ≡ session)
-IsWork (Some work) job session seen new_job new_session = (seen ≡ Some work.act) × (new_job ≡ work.job) × (new_session ≡ work.session)
+IsWork None job session seen new_job new_session =
+    (seen ≡ None) × (new_job ≡ job) × (new_session ≡ session)
+IsWork (Some work) job session seen new_job new_session =
+    (seen ≡ Some work.act) × (new_job ≡ work.job) × (new_session ≡ work.session)

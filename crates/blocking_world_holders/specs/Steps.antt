@@ -1,18 +1,24 @@
--- What happens to a task in one step, in the words of its cut: its holder calls it, or the job of its call acts.
-use Rattle.std.specs.Prelude.{◌≡◌, ◌||◌, ℕ, true, false, List, [], ◌∷◌, slice_get, slice_set, Some, None}
+-- What happens to a task in one step, in the words of its cut: its holder calls it, or the job of
+-- its call acts.
+use Rattle.std.specs.Prelude.{◌≡◌, ◌||◌, ℕ, true, false, List, [], ◌∷◌, slice_get, slice_set, Some}
+use Rattle.std.specs.Prelude.{None}
 use Rattle.blocking_pool.specs.Growth.{Growth}
 use Rattle.blocking_world_laws.specs.Seen.{events, acts_of, is_by_task, is_of_job}
 use Rattle.blocking_world_laws.specs.Seats.{waker_in}
 use Rattle.blocking_world_laws.specs.Jobs.{accepted_by, accepts, holder}
 use Rattle.blocking_world_laws.specs.JobTable.{Calling, WakeHolder, next_of_job}
 use Rattle.blocking_world_laws.specs.declared.event.Act.{Act}
-use Rattle.blocking_world_laws.specs.declared.event.Act.TheVariants.{Accepted, Answered, Finished, GaveUp, HolderWoken}
+use Rattle.blocking_world_laws.specs.declared.event.Act.TheVariants.{Accepted, Answered, Finished}
+use Rattle.blocking_world_laws.specs.declared.event.Act.TheVariants.{GaveUp, HolderWoken}
 use Rattle.blocking_world_laws.specs.declared.event.Event.{Event}
 use Rattle.blocking_world_laws.specs.declared.event.Moment.{Moment}
-use Rattle.blocking_world_laws.specs.declared.event.Party.TheVariants.{Owner as ByOwner, Task as ByTask, Worker, Pool}
+use Rattle.blocking_world_laws.specs.declared.event.Party.TheVariants.{Owner as ByOwner}
+use Rattle.blocking_world_laws.specs.declared.event.Party.TheVariants.{Task as ByTask, Worker, Pool}
 use Rattle.blocking_world_laws.specs.declared.step.Answer.TheVariants.{Number}
 use Rattle.blocking_world_laws.specs.declared.step.TaskCall.{TaskCall}
-use Rattle.blocking_world_holders.specs.Tasks.{Task, may_be, has_let_go, task_act, task_after_call, finish_wakes, task_after_finish, give_up_wakes, task_after_give_up}
+use Rattle.blocking_world_holders.specs.Tasks.{Task, may_be, has_let_go, task_act, task_after_call}
+use Rattle.blocking_world_holders.specs.Tasks.{finish_wakes, task_after_finish, give_up_wakes}
+use Rattle.blocking_world_holders.specs.Tasks.{task_after_give_up}
 
 pub data TaskStep : Type 0 where
   -- its holder calls it so
@@ -54,11 +60,27 @@ task_after CallsWaker task = task
 
 -- an act of task k
 abbrev pub by_task : ℕ → Act → ℕ → Growth → Event
-by_task k act first growth = record { party = ByTask k; owner = None; job = None; act = act; first = first; started = growth.started; start_refused = growth.refused }
+by_task k act first growth = record {
+  party = ByTask k;
+  owner = None;
+  job = None;
+  act = act;
+  first = first;
+  started = growth.started;
+  start_refused = growth.refused;
+}
 
 -- an act of job s, in the hand of worker v
 abbrev pub by_job : ℕ → ℕ → Act → ℕ → Growth → Event
-by_job v s act first growth = record { party = Worker v; owner = None; job = Some s; act = act; first = first; started = growth.started; start_refused = growth.refused }
+by_job v s act first growth = record {
+  party = Worker v;
+  owner = None;
+  job = Some s;
+  act = act;
+  first = first;
+  started = growth.started;
+  start_refused = growth.refused;
+}
 
 -- whose act a step is
 abbrev pub event_by : TaskStep → ℕ → ℕ → ℕ → Act → ℕ → Growth → Event
@@ -70,7 +92,8 @@ pub record IsAside (e : Event) : Type 0 where
   pub out : (k s : ℕ) → is_by_task k e || is_of_job s e ≡ false
   pub none_new : accepted_by e.act ≡ []
 
--- An event of no task: none acts. If it is an act of a job, an owner holds that; if it accepts one, an owner brings that.
+-- An event of no task: none acts. If it is an act of a job, an owner holds that; if it accepts one,
+-- an owner brings that.
 pub record IsBeside (past : List Moment) (e : Event) : Type 0 where
   pub out : (k : ℕ) → is_by_task k e ≡ false
   pub of_owner : (s : ℕ) → is_of_job s e ≡ true → (h : ℕ) × (holder past s ≡ Some (ByOwner h))
@@ -84,7 +107,8 @@ pub record MakesTask (e : Event) (s : ℕ) : Type 0 where
 -- ---- one step of one task
 
 -- Task k takes a step, whose job is s and may be in the hand of worker v; the other tasks stay.
-pub record TakesStep (past : List Moment) (old : List Task) (e : Event) (new : List Task) : Type 0 where
+pub record TakesStep (past : List Moment) (old : List Task) (e : Event) (new : List Task) :
+    Type 0 where
   pub step : TaskStep
   pub place : ℕ
   pub job : ℕ

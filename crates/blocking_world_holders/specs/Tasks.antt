@@ -1,15 +1,21 @@
--- The machine of a task as contracts see it, and what each call of the task and each act of its job does to it.
+-- The machine of a task as contracts see it, and what each call of the task and each act of its job
+-- does to it.
 use Rattle.std.specs.Prelude.{ℕ, Bool, true, false, Option, Some, None, is_some}
-use Rattle.blocking_core.specs.Slots.{Slot, Content, Empty, Full, GivenUp, Abandoned, empty_slot, after_abandon, value_in, after_put, put_in, after_give_up, waker_of_give_up}
+use Rattle.blocking_core.specs.Slots.{Slot, Content, Empty, Full, GivenUp, Abandoned, empty_slot}
+use Rattle.blocking_core.specs.Slots.{after_abandon, value_in, after_put, put_in, after_give_up}
+use Rattle.blocking_core.specs.Slots.{waker_of_give_up}
 use Rattle.blocking_pool.specs.Jobs.{JobNumber}
 use Rattle.blocking_world_laws.specs.declared.event.Act.{Act}
-use Rattle.blocking_world_laws.specs.declared.event.Act.TheVariants.{Waits, TaskGot, TaskGotNone, TaskCancelled, TaskDetached, HolderDropped}
+use Rattle.blocking_world_laws.specs.declared.event.Act.TheVariants.{Waits, TaskGot, TaskGotNone}
+use Rattle.blocking_world_laws.specs.declared.event.Act.TheVariants.{TaskCancelled, TaskDetached}
+use Rattle.blocking_world_laws.specs.declared.event.Act.TheVariants.{HolderDropped}
 use Rattle.blocking_world_laws.specs.declared.step.TaskCall.{TaskCall}
 use Rattle.blocking_world_laws.specs.declared.step.TaskCall.TheVariants.{Poll, Cancel, Detach, Drop}
 use Rattle.blocking_world_holders.specs.declared.task.TaskStage.{TaskStage}
 use Rattle.blocking_world_holders.specs.declared.task.TaskStage.TheVariants as task_stage
 
--- A task: the number of its job, the slot in which it meets that job, what its cancel found, and what became of it.
+-- A task: the number of its job, the slot in which it meets that job, what its cancel found, and
+-- what became of it.
 pub record Task : Type 0 where
   pub number : JobNumber
   pub slot : Slot ℕ (Unit {0})
@@ -18,9 +24,11 @@ pub record Task : Type 0 where
 
 -- the task of a new job
 abbrev pub new_task : JobNumber → Task
-new_task number = record { number = number; slot = empty_slot; found = None; stage = task_stage.Attached }
+new_task number =
+    record { number = number; slot = empty_slot; found = None; stage = task_stage.Attached }
 
--- whether a task may be called so: after its cancel it is only polled and dropped, and a task that is gone isn't called
+-- whether a task may be called so: after its cancel it is only polled and dropped, and a task that
+-- is gone isn't called
 abbrev pub may_be : TaskStage → TaskCall → Bool
 may_be task_stage.Attached call = true
 may_be task_stage.Cancelled Poll = true
@@ -59,13 +67,18 @@ poll_of task = poll_at task.stage task.found task.slot.content
 -- the task after a poll of its slot
 abbrev pub task_after_poll_in : Content ℕ → Task → Task
 task_after_poll_in Empty task = record task { slot = record task.slot { seat = Some tt } }
-task_after_poll_in (Full number) task = record task { slot = record task.slot { content = Empty }; stage = stage_after_answer task.stage }
+task_after_poll_in (Full number) task = record task {
+  slot = record task.slot { content = Empty };
+  stage = stage_after_answer task.stage;
+}
 task_after_poll_in GivenUp task = record task { stage = stage_after_answer task.stage }
 task_after_poll_in (Abandoned true) task = record task { stage = stage_after_answer task.stage }
-task_after_poll_in (Abandoned false) task = record task { slot = record task.slot { seat = Some tt } }
+task_after_poll_in (Abandoned false) task =
+    record task { slot = record task.slot { seat = Some tt } }
 
 abbrev pub task_after_poll_at : TaskStage → Option ℕ → Content ℕ → Task → Task
-task_after_poll_at task_stage.Cancelled (Some number) content task = record task { stage = task_stage.LetGo }
+task_after_poll_at task_stage.Cancelled (Some number) content task =
+    record task { stage = task_stage.LetGo }
 task_after_poll_at _ found content task = task_after_poll_in content task
 
 -- the task after a poll
@@ -74,7 +87,11 @@ task_after_poll task = task_after_poll_at task.stage task.found task.slot.conten
 
 -- the task after its cancel: it keeps an answer that was there
 abbrev pub task_after_cancel : Task → Task
-task_after_cancel task = record task { slot = after_abandon task.slot; found = value_in task.slot; stage = task_stage.Cancelled }
+task_after_cancel task = record task {
+  slot = after_abandon task.slot;
+  found = value_in task.slot;
+  stage = task_stage.Cancelled;
+}
 
 -- the task after it was detached
 abbrev pub task_after_detach : Task → Task

@@ -8,13 +8,16 @@ use Rattle.blocking_core.specs.declared.job.write.WriteAction.{WriteAction}
 use Rattle.blocking_core.specs.declared.job.write.WriteAction.TheVariants as write
 use Rattle.blocking_core.specs.declared.job.write.WriteAnswer.{WriteAnswer}
 use Rattle.blocking_core.specs.declared.job.write.WriteAnswer.TheVariants as by
-use Rattle.blocking_world_laws.specs.JobTable.{Writing, JobAction, Peek, OfferBytes, Consume, AskFlush, CloseEnd, Finish, WakeHolder, Over, next_but_wake, fault}
+use Rattle.blocking_world_laws.specs.JobTable.{Writing, JobAction, Peek, OfferBytes, Consume}
+use Rattle.blocking_world_laws.specs.JobTable.{AskFlush, CloseEnd, Finish, WakeHolder, Over}
+use Rattle.blocking_world_laws.specs.JobTable.{next_but_wake, fault}
 use Rattle.blocking_world_laws.specs.declared.event.Act.{Act}
 use Rattle.blocking_world_laws.specs.declared.step.Answer.{Answer}
 use Rattle.blocking_world_laws.specs.declared.step.Answer.TheVariants.{Number, Fine, Failed}
 use Rattle.blocking_world_holders.specs.Reads.{has_waker}
 
--- What the job of a writer does next, with its fault, once it met one, and what it found last at the front of the pipe.
+-- What the job of a writer does next, with its fault, once it met one, and what it found last at
+-- the front of the pipe.
 pub record Progress : Type 0 where
   pub core : WriteMachine ℕ
   pub piece : List ℕ
@@ -56,7 +59,8 @@ progress_with job answer = record job { core = write_after job.core answer }
 
 -- it found these bytes at the front of the pipe
 abbrev pub progress_after_piece : Progress → List ℕ → Progress
-progress_after_piece job piece = record { core = write_after job.core (by.Peeked (length piece)); piece = piece }
+progress_after_piece job piece =
+    record { core = write_after job.core (by.Peeked (length piece)); piece = piece }
 
 -- the writer answered so
 abbrev pub progress_after_answer : Progress → Answer → Progress

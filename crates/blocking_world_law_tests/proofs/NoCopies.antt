@@ -21,7 +21,8 @@ are_uncopied (now ∷ past) = is_uncopied now.step && are_uncopied past
 both : (a b : Bool) → (a && b) ≡ true → (a ≡ true) × (b ≡ true)
 both a b is = grind arith
 
-copiers_stay : (step : Step) (act : Act) (before : List Copier) → is_uncopied step ≡ true → copiers_by step act before ≡ before
+copiers_stay : (step : Step) (act : Act) (before : List Copier) → is_uncopied step ≡ true
+    → copiers_by step act before ≡ before
 copiers_stay step act before is = grind arith
 
 no_copiers : (past : List Moment) → are_uncopied past ≡ true → copiers past ≡ []
@@ -30,7 +31,8 @@ no_copiers (now ∷ past) is =
     let each = both (is_uncopied now.step) (are_uncopied past) is in
     copiers_stay now.step now.event.act (copiers past) each.0 ∙ no_copiers past each.1
 
-tells_nothing : (step : Step) (past : List Moment) (act : Act) → is_uncopied step ≡ true → StepTells step past act
+tells_nothing : (step : Step) (past : List Moment) (act : Act) → is_uncopied step ≡ true
+    → StepTells step past act
 tells_nothing (Link a b n) past act is = absurd cc
 tells_nothing (Copy k) past act is = absurd cc
 tells_nothing step past act is = tt
@@ -40,7 +42,8 @@ none_copies [] is = tt
 none_copies (now ∷ past) is =
     let each = both (is_uncopied now.step) (are_uncopied past) is in (
       record {
-        copies = λ k c found. absurd (let none = ap (copier_in k) (no_copiers (now ∷ past) is) in cc);
+        copies =
+            λ k c found. absurd (let none = ap (copier_in k) (no_copiers (now ∷ past) is) in cc);
         told = tells_nothing now.step past now.event.act each.0;
       },
       none_copies past each.1,

@@ -19,19 +19,30 @@ use Rattle.blocking_world_laws.specs.declared.event.Party.TheVariants.{Task}
 use Rattle.blocking_world_laws.proofs.Queues.{order_after}
 
 -- the law of the pool, but for the order
-pub record Unordered (setting : ℕ) (plan : List Bool) (past : List Moment) (now : Moment) : Type 0 where
+pub record Unordered (setting : ℕ) (plan : List Bool) (past : List Moment) (now : Moment) :
+    Type 0 where
   pub growth : GrowthLaw setting plan past now
   pub answers : AnswerLaw setting past now
   pub turns : TurnLaw past now
 
-pooled : (setting : ℕ) (plan : List Bool) (past : List Moment) → EachMayFollow (Unordered setting plan) past → EachMayFollow (PoolLaw setting plan) past
+pooled : (setting : ℕ) (plan : List Bool) (past : List Moment)
+    → EachMayFollow (Unordered setting plan) past → EachMayFollow (PoolLaw setting plan) past
 pooled setting plan [] laws = tt
 pooled setting plan (now ∷ past) laws =
     let before = pooled setting plan past laws.1 in
-    let law = laws.0 in
-    (record { growth = law.growth; answers = law.answers; turns = law.turns; order = order_after setting plan past now before law.answers }, before)
+    let law = laws.0 in (
+      record {
+        growth = law.growth;
+        answers = law.answers;
+        turns = law.turns;
+        order = order_after setting plan past now before law.answers;
+      },
+      before,
+    )
 
-pub pooled_so : {setting : ℕ} {plan : List Bool} {past : List Moment} {now : Moment} → EachMayFollow (Unordered setting plan) (now ∷ past) → EachMayFollow (PoolLaw setting plan) (now ∷ past)
+pub pooled_so : {setting : ℕ} {plan : List Bool} {past : List Moment} {now : Moment}
+    → EachMayFollow (Unordered setting plan) (now ∷ past)
+    → EachMayFollow (PoolLaw setting plan) (now ∷ past)
 pooled_so {setting} {plan} {past} {now} laws = pooled setting plan (now ∷ past) laws
 
 -- what makes a past legal, but for the order
@@ -46,7 +57,8 @@ pub record IsLegalUnordered (setting : ℕ) (plan : List Bool) (past : List Mome
   pub staffed : AtEveryBeginning IsStaffedAsSeen past
   pub copies : EachMayFollow CopyLaw past
 
-pub legal_so : {setting : ℕ} {plan : List Bool} {past : List Moment} → IsLegalUnordered setting plan past → Legal setting plan past
+pub legal_so : {setting : ℕ} {plan : List Bool} {past : List Moment}
+    → IsLegalUnordered setting plan past → Legal setting plan past
 legal_so {setting} {plan} {past} legal = record {
   steps = legal.steps;
   pool = pooled setting plan past legal.pool;

@@ -9,7 +9,8 @@ use Rattle.blocking_world_laws.specs.declared.event.Moment.{Moment}
 
 -- Where the last session writes, no more was accepted than its writer took and the pipe holds.
 abbrev pub WritesBehind : List Event → Type 0
-WritesBehind cut = last_kind cut ≡ Writing → length (accepted (own cut)) ≤ length (taken (last_job cut)) + capacity Writing (own cut)
+WritesBehind cut = last_kind cut ≡ Writing
+    → length (accepted (own cut)) ≤ length (taken (last_job cut)) + capacity Writing (own cut)
 
 -- So it is with each owner.
 abbrev pub AllWriteBehind : List Moment → Type 0

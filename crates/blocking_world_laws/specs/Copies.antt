@@ -1,12 +1,18 @@
--- Copiers: each reads one owner and writes another, by polls alone. All is read from what was seen since the copier was made.
-use Rattle.std.specs.Prelude.{◌≡◌, ℕ, zero, suc, ◌==◌, ◌&&◌, ◌||◌, not, min, if◌then◌else◌, Bool, true, false, List, [], ◌∷◌, ◌++◌, length, take, drop, map, filter, Option, Some}
+-- Copiers: each reads one owner and writes another, by polls alone. All is read from what was seen
+-- since the copier was made.
+use Rattle.std.specs.Prelude.{◌≡◌, ℕ, zero, suc, ◌==◌, ◌&&◌, ◌||◌, not, min, if◌then◌else◌, Bool}
+use Rattle.std.specs.Prelude.{true, false, List, [], ◌∷◌, ◌++◌, length, take, drop, map, filter}
+use Rattle.std.specs.Prelude.{Option, Some}
 use Rattle.blocking_world_laws.specs.Core.{greatest}
-use Rattle.blocking_world_laws.specs.Seen.{IsBeginning, events, own, acts_of, cut, is_nothing, is_owner}
+use Rattle.blocking_world_laws.specs.Seen.{IsBeginning, events, own, acts_of, cut, is_nothing}
+use Rattle.blocking_world_laws.specs.Seen.{is_owner}
 use Rattle.blocking_world_laws.specs.Lent.{Copier, copiers, copier_in}
 use Rattle.blocking_world_laws.specs.Sessions.{call, jobs_of}
 use Rattle.blocking_world_laws.specs.Passed.{data_of, taken}
 use Rattle.blocking_world_laws.specs.declared.event.Act.{Act}
-use Rattle.blocking_world_laws.specs.declared.event.Act.TheVariants.{Asked, Got, Filled, Waits, Replied, Linked, Copied, CopyFailed}
+use Rattle.blocking_world_laws.specs.declared.event.Act.TheVariants.{Asked, Got, Filled, Waits}
+use Rattle.blocking_world_laws.specs.declared.event.Act.TheVariants.{Replied, Linked, Copied}
+use Rattle.blocking_world_laws.specs.declared.event.Act.TheVariants.{CopyFailed}
 use Rattle.blocking_world_laws.specs.declared.event.CopySide.TheVariants as side
 use Rattle.blocking_world_laws.specs.declared.event.Event.{Event}
 use Rattle.blocking_world_laws.specs.declared.event.Moment.{Moment}
@@ -35,7 +41,8 @@ acts_since k h past = own (cut h (events (since k past)))
 
 -- whether an event is one of the copier's reader or writer
 abbrev pub is_by_either : Copier → Event → Bool
-is_by_either c e = not (is_nothing e.act) && (is_owner c.reader e.party || is_owner c.writer e.party)
+is_by_either c e =
+    not (is_nothing e.act) && (is_owner c.reader e.party || is_owner c.writer e.party)
 
 -- the acts of its reader and its writer since it was made
 abbrev pub polls_of : Copier → List Moment → List Act
@@ -120,14 +127,15 @@ once_more (Some (Write bytes)) n = AskWriter (Write bytes)
 once_more (Some Flush) n = AskWriter Flush
 once_more asked n = AskReader (Read n)
 
--- how a copier ends whose writer is flushed: with the number of bytes that it wrote, or with a failure where a write took none
+-- how a copier ends whose writer is flushed: with the number of bytes that it wrote, or with a
+-- failure where a write took none
 abbrev pub ends_flushed : Bool → ℕ → Act
 ends_flushed true n = CopyFailed side.Writing
 ends_flushed false n = Copied (min n greatest)
 
--- What a copier does after a reply, which has this rest, wrote n bytes so far, and met a write that took none or not: what it read it
--- writes, to the last byte; at the reader's end, and after a write that took none, it flushes; after the flush it ends; and a failure ends
--- it at once.
+-- What a copier does after a reply, which has this rest, wrote n bytes so far, and met a write that
+-- took none or not: what it read it writes, to the last byte; at the reader's end, and after a
+-- write that took none, it flushes; after the flush it ends; and a failure ends it at once.
 abbrev pub after_reply : ℕ → List ℕ → ℕ → Bool → Option HandleCall → Reply → CopierAction
 after_reply piece rest n short (Some (Read m)) (Count zero) = AskWriter Flush
 after_reply piece rest n short (Some (Read m)) (Count (suc k)) = AskWriter (Write rest)
@@ -144,7 +152,8 @@ abbrev pub next_by : Copier → List Moment → Outcome → CopierAction
 next_by c past NotAsked = AskReader (Read c.piece)
 next_by c past NoReply = once_more (call (polls_of c past)) c.piece
 next_by c past (HasReplied reply) =
-    after_reply c.piece (rest_of c past) (length (written_by c past)) (is_short (acts_since c.number c.writer past))
+    after_reply c.piece (rest_of c past) (length (written_by c past))
+    (is_short (acts_since c.number c.writer past))
     (call (polls_of c past)) reply
 
 -- what a copier does next
@@ -162,8 +171,8 @@ pub record IsFlushedLast (polls : List Act) : Type 0 where
 abbrev pub IsEnding : List ℕ → List ℕ → Type 0
 IsEnding xs ys = (front : List ℕ) × (ys ≡ front ++ xs)
 
--- Where a copier tells that n bytes were copied, it has written all that it read, its writer's handle took all of that, its writer was
--- flushed after it, and n is how much was written.
+-- Where a copier tells that n bytes were copied, it has written all that it read, its writer's
+-- handle took all of that, its writer was flushed after it, and n is how much was written.
 pub record IsCopied (c : Copier) (past : List Moment) (n : ℕ) : Type 0 where
   pub written : written_by c past ≡ read_by c past
   pub taken : IsEnding (written_by c past) (all_taken (cut c.writer (events past)))
@@ -180,7 +189,8 @@ abbrev pub StepTells : Step → List Moment → Act → Type 0
 StepTells (Copy k) past act = TellsTruly (copier_in k (copiers past)) past act
 StepTells step past act = Unit {0}
 
--- The law of copies: until it tells its end, what each copier has written is a beginning of what it has read; and what it tells is so.
+-- The law of copies: until it tells its end, what each copier has written is a beginning of what it
+-- has read; and what it tells is so.
 pub record CopyLaw (past : List Moment) (now : Moment) : Type 0 where
   pub copies : (k : ℕ) (c : Copier) → copier_in k (copiers (now ∷ past)) ≡ Some c
       → IsBeginning (written_by c (now ∷ past)) (read_by c (now ∷ past))

@@ -1,9 +1,11 @@
--- Short traces with a copier that reads owner 1 and writes owner 0, for the theorems that show what the law of copies accepts and refuses. They
--- are written as those of `OwnerTraces`.
+-- Short traces with a copier that reads owner 1 and writes owner 0, for the theorems that show what
+-- the law of copies accepts and refuses. They are written as those of `OwnerTraces`.
 use Rattle.std.specs.Prelude.{ℕ, List, [], ◌∷◌, None}
 use Rattle.blocking_world_laws.specs.Traces.{◌▸◌, moment}
 use Rattle.blocking_world_laws.specs.OwnerTraces.{polls, works, given}
-use Rattle.blocking_world_laws.specs.declared.event.Act.TheVariants.{Asked, Accepted, Got, Filled, Replied, Peeked, Linked, Copied}
+use Rattle.blocking_world_laws.specs.declared.event.Act.TheVariants.{Asked, Accepted, Got, Filled}
+use Rattle.blocking_world_laws.specs.declared.event.Act.TheVariants.{Replied, Peeked, Linked}
+use Rattle.blocking_world_laws.specs.declared.event.Act.TheVariants.{Copied}
 use Rattle.blocking_world_laws.specs.declared.event.Moment.{Moment}
 use Rattle.blocking_world_laws.specs.declared.event.Party.TheVariants.{Owner, Pool}
 use Rattle.blocking_world_laws.specs.declared.event.Reply.TheVariants.{Okay, Count}

@@ -1,5 +1,6 @@
 -- The counts of workers, and the limit.
-use Rattle.std.specs.Prelude.{ℕ, ◌+◌, ◌-◌, Bool, true, false, List, [], ◌∷◌, length, filter, zero, suc}
+use Rattle.std.specs.Prelude.{ℕ, ◌+◌, ◌-◌, Bool, true, false, List, [], ◌∷◌, length, filter, zero}
+use Rattle.std.specs.Prelude.{suc}
 use Rattle.blocking_world_laws.specs.Core.{limit_after}
 use Rattle.blocking_world_laws.specs.Queue.{running}
 use Rattle.blocking_world_laws.specs.declared.event.Act.{Act}
@@ -51,9 +52,10 @@ abbrev pub limit_by : Act → ℕ → ℕ
 limit_by (LimitSet n) before = n
 limit_by _ before = before
 
--- The limit: the last one that was set, or that a refused start left, which is the workers then and at least 1; before
--- that the setting's.
+-- The limit: the last one that was set, or that a refused start left, which is the workers then and
+-- at least 1; before that the setting's.
 abbrev pub limit : ℕ → List Moment → ℕ
 limit setting [] = setting
 limit setting (now ∷ past) =
-    limit_after (limit_by now.event.act (limit setting past)) (workers past + now.event.started) now.event.start_refused
+    limit_after (limit_by now.event.act (limit setting past)) (workers past + now.event.started)
+    now.event.start_refused

@@ -1,5 +1,6 @@
 -- What is told to be over is over.
-use Rattle.std.specs.Prelude.{◌≡◌, zero, suc, Bool, true, false, ◌||◌, List, [], ◌∷◌, Option, Some, None}
+use Rattle.std.specs.Prelude.{◌≡◌, zero, suc, Bool, true, false, ◌||◌, List, [], ◌∷◌, Option, Some}
+use Rattle.std.specs.Prelude.{None}
 use Rattle.blocking_world_laws.specs.Seen.{own}
 use Rattle.blocking_world_laws.specs.JobTable.{Kind, Writing}
 use Rattle.blocking_world_laws.specs.Sessions.{call}
@@ -10,7 +11,8 @@ use Rattle.blocking_world_laws.specs.declared.event.Event.{Event}
 use Rattle.blocking_world_laws.specs.declared.event.Reply.{Reply}
 use Rattle.blocking_world_laws.specs.declared.event.Reply.TheVariants.{Okay, Count, NoMore}
 use Rattle.blocking_world_laws.specs.declared.step.Answer.{Answer}
-use Rattle.blocking_world_laws.specs.declared.step.Answer.TheVariants.{Number, Gave, Fine, NoItem, Failed}
+use Rattle.blocking_world_laws.specs.declared.step.Answer.TheVariants.{Number, Gave, Fine, NoItem}
+use Rattle.blocking_world_laws.specs.declared.step.Answer.TheVariants.{Failed}
 use Rattle.blocking_world_laws.specs.declared.step.HandleCall.{HandleCall}
 use Rattle.blocking_world_laws.specs.declared.step.HandleCall.TheVariants.{Read, Flush, Close, Next}
 
@@ -64,7 +66,8 @@ pub record IsReadWhole (cut : List Event) : Type 0 where
   pub ended : last_is_end (handle_answers (last_job cut)) ≡ true
   pub sound : has_failure (handle_answers (last_job cut)) ≡ false
 
--- The writer of the last session took all that was accepted, no write of it failed, and it was flushed.
+-- The writer of the last session took all that was accepted, no write of it failed, and it was
+-- flushed.
 pub record IsFlushed (cut : List Event) : Type 0 where
   pub all : taken (last_job cut) ≡ accepted (own cut)
   pub sound : has_failed_write (handle_answers (last_job cut)) ≡ false
@@ -96,9 +99,10 @@ abbrev pub IsFlushedBack : Option (List Event) → Type 0
 IsFlushedBack (Some cut) = IsFlushedIf (last_kind cut) cut
 IsFlushedBack None = Unit {0}
 
--- a read into a buffer with room replies none, and a call for an item that none is left, only where the handle came back in this poll, from a
--- session that was read whole; a flush and a close reply without a fault only where no handle came back in this poll from a session that
--- writes and wasn't flushed
+-- a read into a buffer with room replies none, and a call for an item that none is left, only where
+-- the handle came back in this poll, from a session that was read whole; a flush and a close reply
+-- without a fault only where no handle came back in this poll from a session that writes and wasn't
+-- flushed
 abbrev pub IsTrueEnd : Option HandleCall → Reply → Option (List Event) → Type 0
 IsTrueEnd (Some (Read (suc n))) (Count zero) back = IsReadBack back
 IsTrueEnd (Some Next) NoMore back = IsReadBack back

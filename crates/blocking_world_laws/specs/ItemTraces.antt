@@ -1,11 +1,16 @@
--- Short traces with owners that take items, for the theorems that show what their laws accept and refuse. They are written as those of
--- `OwnerTraces`.
+-- Short traces with owners that take items, for the theorems that show what their laws accept and
+-- refuse. They are written as those of `OwnerTraces`.
 use Rattle.std.specs.Prelude.{List, [], Some, None}
 use Rattle.blocking_pool.specs.declared.pool.answer.Woke.TheVariants.{Entered}
 use Rattle.blocking_pool.specs.declared.pool.standing.Standing.TheVariants.{Parked, Done}
 use Rattle.blocking_world_laws.specs.Traces.{◌▸◌, moment, starting}
 use Rattle.blocking_world_laws.specs.OwnerTraces.{asks, polls, takes, works, given, ends}
-use Rattle.blocking_world_laws.specs.declared.event.Act.TheVariants.{Made, Accepted, OwnerClosed, JobWoken, GotItem, GotEnd, Back, Replied, Waits, Arrived, Took, Ended, JobParked, Put, Lost, JobClosed, Finished, HolderWoken}
+use Rattle.blocking_world_laws.specs.declared.event.Act.TheVariants.{Made, Accepted, OwnerClosed}
+use Rattle.blocking_world_laws.specs.declared.event.Act.TheVariants.{JobWoken, GotItem, GotEnd}
+use Rattle.blocking_world_laws.specs.declared.event.Act.TheVariants.{Back, Replied, Waits, Arrived}
+use Rattle.blocking_world_laws.specs.declared.event.Act.TheVariants.{Took, Ended, JobParked, Put}
+use Rattle.blocking_world_laws.specs.declared.event.Act.TheVariants.{Lost, JobClosed, Finished}
+use Rattle.blocking_world_laws.specs.declared.event.Act.TheVariants.{HolderWoken}
 use Rattle.blocking_world_laws.specs.declared.event.HolderWaker.TheVariants.{Taken, Absent}
 use Rattle.blocking_world_laws.specs.declared.event.Moment.{Moment}
 use Rattle.blocking_world_laws.specs.declared.event.Party.TheVariants.{Owner, Worker}
@@ -30,7 +35,8 @@ stream_begun = item_asked ▸ starting 1 (polls (Accepted 1) 1)
 
 -- .. / accepted 1 +1 / waits / arrived 1 / took 1
 abbrev pub stream_taken : List Moment
-stream_taken = stream_begun ▸ polls Waits 2 ▸ moment Arrive (Worker 1) None (Arrived 1) 2 ▸ takes 1 (Took 1)
+stream_taken =
+    stream_begun ▸ polls Waits 2 ▸ moment Arrive (Worker 1) None (Arrived 1) 2 ▸ takes 1 (Took 1)
 
 -- .. / took 1 / answered item 0
 abbrev pub first_given : List Moment
@@ -98,7 +104,8 @@ stream_anew = stream_ended ▸ asks Next 2 ▸ polls (Accepted 2) 2 ▸ polls Wa
 
 -- ---- a stream that is stopped
 
--- .. / ended 1 parked / asked (for the handle) / closed wake 1 / delivered 1 entered / waits / took 1
+-- .. / ended 1 parked / asked (for the handle) / closed wake 1 / delivered 1 entered / waits / took
+-- 1
 abbrev pub stream_stops : List Moment
 stream_stops = stream_parked
     ▸ asks GetMut 2
@@ -126,6 +133,8 @@ stopped_back = stream_stopped ▸ asks Next 2 ▸ polls Back 2
 abbrev pub untold_stream : List Moment
 untold_stream = first_given ▸ works 1 (Put 1 Absent) ▸ given 1 (Item 1) ▸ works 1 JobParked
 
--- .. / ended 1 parked / asked (for an item) / got item 0 / replied item 0 / asked (for an item): the parked job isn't told
+-- .. / ended 1 parked / asked (for an item) / got item 0 / replied item 0 / asked (for an item):
+-- the parked job isn't told
 abbrev pub untold_stream_job : List Moment
-untold_stream_job = first_asked ▸ polls (GotItem 0 None) 2 ▸ polls (Replied (OneItem 0)) 2 ▸ asks Next 2
+untold_stream_job =
+    first_asked ▸ polls (GotItem 0 None) 2 ▸ polls (Replied (OneItem 0)) 2 ▸ asks Next 2

@@ -1,5 +1,6 @@
 -- The table of a job: what it does next, read from its own acts, the newest first.
-use Rattle.std.specs.Prelude.{◌≡◌, ℕ, zero, suc, nat_le, min, Bool, true, false, List, [], ◌∷◌, length, Option, Some, None}
+use Rattle.std.specs.Prelude.{◌≡◌, ℕ, zero, suc, nat_le, min, Bool, true, false, List, [], ◌∷◌}
+use Rattle.std.specs.Prelude.{length, Option, Some, None}
 use Rattle.blocking_core.specs.declared.io.Fault.{Fault}
 use Rattle.blocking_core.specs.declared.io.Fault.TheVariants.{Io, WriteZero}
 use Rattle.blocking_core.specs.declared.io.Position.{Position}
@@ -8,11 +9,12 @@ use Rattle.blocking_world_laws.specs.declared.event.Act.TheVariants.{RoomFree, R
 use Rattle.blocking_world_laws.specs.declared.event.HolderWaker.{HolderWaker}
 use Rattle.blocking_world_laws.specs.declared.event.HolderWaker.TheVariants.{Taken, Absent}
 use Rattle.blocking_world_laws.specs.declared.step.Answer.{Answer}
-use Rattle.blocking_world_laws.specs.declared.step.Answer.TheVariants.{Number, Gave, Fine, Item, NoItem}
+use Rattle.blocking_world_laws.specs.declared.step.Answer.TheVariants.{Number, Gave, Fine, Item}
+use Rattle.blocking_world_laws.specs.declared.step.Answer.TheVariants.{NoItem}
 use Rattle.blocking_world_laws.specs.declared.step.Answer.TheVariants as answer
 
--- what a job is for: to make a call, to read ahead for an owner, to write behind it, to fetch items ahead for it, to move its handle to a
--- position, or to run its operation on the handle
+-- what a job is for: to make a call, to read ahead for an owner, to write behind it, to fetch items
+-- ahead for it, to move its handle to a position, or to run its operation on the handle
 pub data Kind : Type 0 where
   Calling : Kind
   Reading : Kind
@@ -25,10 +27,12 @@ pub data Kind : Type 0 where
 abbrev pub piece : ℕ
 piece = 65536
 
--- The next action of a job: it asks for its call's answer; it asks its reader for at most so many bytes, looks for room in the pipe,
--- puts these bytes there; it looks at the front of the pipe, offers these bytes to its writer, takes so many out of the pipe, has its
--- writer flushed; it asks its handle for an item, sends this item into the pipe; it closes its end; it has the handle moved; it has its
--- operation run, and puts the operation's result; it puts its own result, calls the waker that it took, or has nothing left to do.
+-- The next action of a job: it asks for its call's answer; it asks its reader for at most so many
+-- bytes, looks for room in the pipe, puts these bytes there; it looks at the front of the pipe,
+-- offers these bytes to its writer, takes so many out of the pipe, has its writer flushed; it asks
+-- its handle for an item, sends this item into the pipe; it closes its end; it has the handle
+-- moved; it has its operation run, and puts the operation's result; it puts its own result, calls
+-- the waker that it took, or has nothing left to do.
 pub data JobAction : Type 0 where
   AskCall : JobAction
   AskBytes : ℕ → JobAction
@@ -57,9 +61,11 @@ first_action Streaming = AskItem
 first_action (Seeking position) = AskSeek
 first_action Operating = AskResult
 
--- the action after an answer to this one: bytes of a reader are put, and after none, and after a failure, the job closes its end; bytes
--- that a writer took leave the pipe, after none, and after a failure, it is flushed, and after the flush the job closes its end; an item is
--- sent, and after the last the job closes its end; an operation's result is put; after a seek, and after a call, the job finishes
+-- the action after an answer to this one: bytes of a reader are put, and after none, and after a
+-- failure, the job closes its end; bytes that a writer took leave the pipe, after none, and after a
+-- failure, it is flushed, and after the flush the job closes its end; an item is sent, and after
+-- the last the job closes its end; an operation's result is put; after a seek, and after a call,
+-- the job finishes
 abbrev pub next_after_answer : JobAction → Answer → JobAction
 next_after_answer (AskBytes n) (Gave (b ∷ bs)) = PutPiece (b ∷ bs)
 next_after_answer (AskBytes n) answer = CloseEnd
@@ -71,7 +77,8 @@ next_after_answer AskItem answer = CloseEnd
 next_after_answer AskResult answer = PutResult
 next_after_answer action answer = Finish
 
--- the action of a job of this kind after it handed something in: the next item is asked for, or room is looked for
+-- the action of a job of this kind after it handed something in: the next item is asked for, or
+-- room is looked for
 abbrev pub after_put : Kind → JobAction
 after_put Streaming = AskItem
 after_put _ = FindRoom
@@ -118,9 +125,10 @@ abbrev pub next_of_job : Kind → List Act → JobAction
 next_of_job kind [] = first_action kind
 next_of_job kind (act ∷ past) = wake_first (takes_waker act) (next_but_wake kind (act ∷ past))
 
--- whether this is an answer to what the job asks for: a reader gives no more bytes than it was asked for, a writer takes no more than it
--- was offered, or is flushed, a handle is moved, or one of these fails; a handle that is iterated gives an item or has none left, and an
--- operation gives a number, as a call does
+-- whether this is an answer to what the job asks for: a reader gives no more bytes than it was
+-- asked for, a writer takes no more than it was offered, or is flushed, a handle is moved, or one
+-- of these fails; a handle that is iterated gives an item or has none left, and an operation gives
+-- a number, as a call does
 abbrev pub is_answer : JobAction → Answer → Bool
 is_answer AskCall (Number n) = true
 is_answer (AskBytes n) (Gave bytes) = nat_le (length bytes) n
@@ -182,7 +190,8 @@ earlier None later = later
 -- the fault of a job of this kind: the first one
 abbrev pub fault : Kind → List Act → Option (Fault ℕ)
 fault kind [] = None
-fault kind (Answered answer ∷ past) = earlier (fault kind past) (fault_in (next_but_wake kind past) answer)
+fault kind (Answered answer ∷ past) =
+    earlier (fault kind past) (fault_in (next_but_wake kind past) answer)
 fault kind (_ ∷ past) = fault kind past
 
 -- whether the job closed its end of the pipe

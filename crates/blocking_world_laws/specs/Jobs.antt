@@ -1,8 +1,11 @@
--- The jobs: who holds them, of which client each is, how it stands, and whether it was woken, cancelled or marked.
-use Rattle.std.specs.Prelude.{ℕ, ◌==◌, ◌&&◌, ◌||◌, not, if◌then◌else◌, Bool, true, false, List, [], ◌∷◌, length, filter, Option, Some, None}
+-- The jobs: who holds them, of which client each is, how it stands, and whether it was woken,
+-- cancelled or marked.
+use Rattle.std.specs.Prelude.{ℕ, ◌==◌, ◌&&◌, ◌||◌, not, if◌then◌else◌, Bool, true, false, List, []}
+use Rattle.std.specs.Prelude.{◌∷◌, length, filter, Option, Some, None}
 use Rattle.blocking_pool.specs.declared.pool.answer.Woke.TheVariants.{Entered, Marked}
 use Rattle.blocking_pool.specs.declared.pool.standing.Standing.{Standing}
-use Rattle.blocking_pool.specs.declared.pool.standing.Standing.TheVariants.{Queued, Running, Parked, Done, Dropped}
+use Rattle.blocking_pool.specs.declared.pool.standing.Standing.TheVariants.{Queued, Running, Parked}
+use Rattle.blocking_pool.specs.declared.pool.standing.Standing.TheVariants.{Done, Dropped}
 use Rattle.blocking_world_laws.specs.Seen.{joined, is_owner, is_task, has_timed_out}
 use Rattle.blocking_world_laws.specs.declared.event.Act.{Act}
 use Rattle.blocking_world_laws.specs.declared.event.Act.TheVariants.{Made, Accepted, JobWoken, JobCancelled, Took, TookDropped, Ended, Swept, Stays, Stopped, HolderDropped, TaskCancelled}
@@ -43,7 +46,8 @@ makes_a_task e = is_pool e.party && not (length (accepted_by e.act) == 0)
 abbrev pub tasks : List Moment → ℕ
 tasks past = length (filter (λ now. makes_a_task now.event) past)
 
--- who holds a job that this party brings now: for the pool, the task that comes with it; else the owner whose session begins
+-- who holds a job that this party brings now: for the pool, the task that comes with it; else the
+-- owner whose session begins
 abbrev pub newcomer : List Moment → Party → Party
 newcomer past Pool = Task (tasks past)
 newcomer past party = party
@@ -51,7 +55,8 @@ newcomer past party = party
 -- who holds the job: whose waker it calls, and who may let it go
 abbrev pub holder : List Moment → ℕ → Option Party
 holder [] s = None
-holder (now ∷ past) s = if accepts s now.event.act then Some (newcomer past now.event.party) else holder past s
+holder (now ∷ past) s =
+    if accepts s now.event.act then Some (newcomer past now.event.party) else holder past s
 
 -- the owner that a holder is: a task is none
 abbrev pub as_owner : Option Party → Option ℕ
@@ -79,9 +84,11 @@ makes h _ = false
 -- the client that an owner was made for
 abbrev pub client_of_owner : List Moment → ℕ → ℕ
 client_of_owner [] h = 0
-client_of_owner (now ∷ past) h = if makes h now.event.act then client_made now.step else client_of_owner past h
+client_of_owner (now ∷ past) h =
+    if makes h now.event.act then client_made now.step else client_of_owner past h
 
--- the client of the job that a step brings: a call's is the one that the step names, a session's that of its owner
+-- the client of the job that a step brings: a call's is the one that the step names, a session's
+-- that of its owner
 abbrev pub client_of_step : List Moment → Step → ℕ
 client_of_step past (Spawn c) = c
 client_of_step past (Own h) = client_of_owner past h
@@ -90,7 +97,8 @@ client_of_step past _ = 0
 -- the client of a job
 abbrev pub client : List Moment → ℕ → ℕ
 client [] s = 0
-client (now ∷ past) s = if accepts s now.event.act then client_of_step past now.step else client past s
+client (now ∷ past) s =
+    if accepts s now.event.act then client_of_step past now.step else client past s
 
 -- ---- woken, cancelled, marked
 
@@ -138,7 +146,8 @@ lets_go _ = false
 abbrev pub is_marked : List Moment → ℕ → Bool
 is_marked [] s = false
 is_marked (now ∷ past) s =
-    lets_go now.event.act && is_holder (holder past s) now.event.party && not (has_ended past s) || is_marked past s
+    lets_go now.event.act && is_holder (holder past s) now.event.party && not (has_ended past s)
+    || is_marked past s
 
 -- whether the job is to be dropped where it is met next
 abbrev pub is_to_drop : List Moment → ℕ → Bool
@@ -178,8 +187,8 @@ abbrev pub is_parked : Option Standing → Bool
 is_parked (Some Parked) = true
 is_parked _ = false
 
--- How the job stands: queued by a sweep that found it parked and marked, else as the newest act says that names it. A job
--- that was never accepted stands nowhere.
+-- How the job stands: queued by a sweep that found it parked and marked, else as the newest act
+-- says that names it. A job that was never accepted stands nowhere.
 abbrev pub standing : List Moment → ℕ → Option Standing
 standing [] s = None
 standing (now ∷ past) s =

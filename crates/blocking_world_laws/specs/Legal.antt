@@ -18,16 +18,18 @@ use Rattle.blocking_world_laws.specs.declared.event.Moment.{Moment}
 use Rattle.blocking_world_laws.specs.declared.event.Party.TheVariants.{Task}
 
 -- The law of the pool, over all that was seen.
-pub record PoolLaw (setting : ℕ) (plan : List Bool) (past : List Moment) (now : Moment) : Type 0 where
+pub record PoolLaw (setting : ℕ) (plan : List Bool) (past : List Moment) (now : Moment) :
+    Type 0 where
   pub growth : GrowthLaw setting plan past now
   pub answers : AnswerLaw setting past now
   pub turns : TurnLaw past now
   pub order : InOrder (now ∷ past)
 
--- A past is legal, by the setting's number and the plan of the starts: each step has the event that it may have, the
--- pool keeps its law, each owner with its jobs keeps theirs, each task with its job keeps theirs, copiers keep theirs, and at every
--- beginning no wake is lost, of tasks or of owners, queued jobs are served, and the workers are accounted for. Only the pool's law and those of
--- every beginning see more than one holder, and that of copies two owners.
+-- A past is legal, by the setting's number and the plan of the starts: each step has the event that
+-- it may have, the pool keeps its law, each owner with its jobs keeps theirs, each task with its
+-- job keeps theirs, copiers keep theirs, and at every beginning no wake is lost, of tasks or of
+-- owners, queued jobs are served, and the workers are accounted for. Only the pool's law and those
+-- of every beginning see more than one holder, and that of copies two owners.
 pub record Legal (setting : ℕ) (plan : List Bool) (past : List Moment) : Type 0 where
   pub steps : EachMayFollow StepLaw past
   pub pool : EachMayFollow (PoolLaw setting plan) past
@@ -56,8 +58,8 @@ pub record HoldsNow (setting : ℕ) (plan : List Bool) (past : List Moment) : Ty
   pub staffed : IsStaffedAsSeen past
   pub copies : LastFollows CopyLaw past
 
--- The same as `Legal`, said of every beginning of the trace: however the past is split into a beginning and what came later,
--- the laws hold at that beginning.
+-- The same as `Legal`, said of every beginning of the trace: however the past is split into a
+-- beginning and what came later, the laws hold at that beginning.
 abbrev pub IsLegalThroughout : ℕ → List Bool → List Moment → Type 0
 IsLegalThroughout setting plan past =
     (later beginning : List Moment) → past ≡ later ++ beginning → HoldsNow setting plan beginning

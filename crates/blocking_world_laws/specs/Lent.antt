@@ -1,5 +1,6 @@
 -- Which owners are lent to copiers, and which copiers there are.
-use Rattle.std.specs.Prelude.{ℕ, ◌==◌, ◌||◌, not, if◌then◌else◌, Bool, true, false, List, [], ◌∷◌, length, filter, Option, Some, None}
+use Rattle.std.specs.Prelude.{ℕ, ◌==◌, ◌||◌, not, if◌then◌else◌, Bool, true, false, List, [], ◌∷◌}
+use Rattle.std.specs.Prelude.{length, filter, Option, Some, None}
 use Rattle.blocking_world_laws.specs.declared.event.Act.{Act}
 use Rattle.blocking_world_laws.specs.declared.event.Act.TheVariants.{Linked, Copied, CopyFailed}
 use Rattle.blocking_world_laws.specs.declared.event.Moment.{Moment}
@@ -19,7 +20,8 @@ without_copier k before = filter (λ c. not (c.number == k)) before
 
 -- the copiers that have told no end, after a moment
 abbrev pub copiers_by : Step → Act → List Copier → List Copier
-copiers_by (Link a b n) (Linked k) before = record { number = k; reader = a; writer = b; piece = n } ∷ before
+copiers_by (Link a b n) (Linked k) before =
+    record { number = k; reader = a; writer = b; piece = n } ∷ before
 copiers_by (Copy k) (Copied n) before = without_copier k before
 copiers_by (Copy k) (CopyFailed side) before = without_copier k before
 copiers_by step act before = before

@@ -1,17 +1,24 @@
--- Short traces with owners that operate on their handle, and with those that take it back, for the theorems that show what their laws
--- accept and refuse. They are written as those of `OwnerTraces`.
+-- Short traces with owners that operate on their handle, and with those that take it back, for the
+-- theorems that show what their laws accept and refuse. They are written as those of `OwnerTraces`.
 use Rattle.std.specs.Prelude.{List, [], Some, None}
 use Rattle.blocking_pool.specs.declared.pool.answer.Woke.TheVariants.{Entered}
 use Rattle.blocking_pool.specs.declared.pool.standing.Standing.TheVariants.{Done}
 use Rattle.blocking_world_laws.specs.Traces.{◌▸◌, moment, starting}
-use Rattle.blocking_world_laws.specs.OwnerTraces.{asks, polls, takes, works, given, ends, reader_parked}
-use Rattle.blocking_world_laws.specs.declared.event.Act.TheVariants.{Made, Accepted, OwnerClosed, JobWoken, Back, ResultGot, Replied, Waits, Arrived, Took, Ended, RoomShut, JobClosed, ResultPut, Finished, HolderWoken}
+use Rattle.blocking_world_laws.specs.OwnerTraces.{asks, polls, takes, works, given, ends}
+use Rattle.blocking_world_laws.specs.OwnerTraces.{reader_parked}
+use Rattle.blocking_world_laws.specs.declared.event.Act.TheVariants.{Made, Accepted, OwnerClosed}
+use Rattle.blocking_world_laws.specs.declared.event.Act.TheVariants.{JobWoken, Back, ResultGot}
+use Rattle.blocking_world_laws.specs.declared.event.Act.TheVariants.{Replied, Waits, Arrived, Took}
+use Rattle.blocking_world_laws.specs.declared.event.Act.TheVariants.{Ended, RoomShut, JobClosed}
+use Rattle.blocking_world_laws.specs.declared.event.Act.TheVariants.{ResultPut, Finished}
+use Rattle.blocking_world_laws.specs.declared.event.Act.TheVariants.{HolderWoken}
 use Rattle.blocking_world_laws.specs.declared.event.HolderWaker.TheVariants.{Taken, Absent}
 use Rattle.blocking_world_laws.specs.declared.event.Moment.{Moment}
 use Rattle.blocking_world_laws.specs.declared.event.Party.TheVariants.{Owner, Worker}
 use Rattle.blocking_world_laws.specs.declared.event.Reply.TheVariants.{Count, Handle}
 use Rattle.blocking_world_laws.specs.declared.step.Answer.TheVariants.{Number}
-use Rattle.blocking_world_laws.specs.declared.step.HandleCall.TheVariants.{Read, Operate, OperateAgain, IntoInner}
+use Rattle.blocking_world_laws.specs.declared.step.HandleCall.TheVariants.{Read, Operate}
+use Rattle.blocking_world_laws.specs.declared.step.HandleCall.TheVariants.{OperateAgain, IntoInner}
 use Rattle.blocking_world_laws.specs.declared.step.Step.TheVariants.{New, Arrive}
 
 -- ---- an operation that gives 9, and a read after it
@@ -26,7 +33,8 @@ operation_begun = operator_made ▸ asks Operate 1 ▸ starting 1 (polls (Accept
 
 -- .. / accepted 1 +1 / waits / arrived 1 / took 1
 abbrev pub operation_taken : List Moment
-operation_taken = operation_begun ▸ polls Waits 2 ▸ moment Arrive (Worker 1) None (Arrived 1) 2 ▸ takes 1 (Took 1)
+operation_taken =
+    operation_begun ▸ polls Waits 2 ▸ moment Arrive (Worker 1) None (Arrived 1) 2 ▸ takes 1 (Took 1)
 
 -- .. / took 1 / answered 9
 abbrev pub nine_given : List Moment
@@ -44,7 +52,8 @@ nine_got = nine_put ▸ asks OperateAgain 2 ▸ polls (ResultGot 9) 2
 abbrev pub nine_replied : List Moment
 nine_replied = nine_got ▸ polls (Replied (Count 9)) 2
 
--- .. / replied ok 9 / asked (to read) / waits / finished wake owner / delivered owner / ended 1 done
+-- .. / replied ok 9 / asked (to read) / waits / finished wake owner / delivered owner / ended 1
+-- done
 abbrev pub operation_over : List Moment
 operation_over = nine_replied
     ▸ asks (Read 2) 2
@@ -67,7 +76,8 @@ nine_unasked = nine_put ▸ works 1 (Finished Absent) ▸ ends 1 (Ended 1 Done)
 abbrev pub second_begun : List Moment
 second_begun = nine_unasked ▸ asks Operate 2 ▸ polls Back 2 ▸ polls (Accepted 2) 2
 
--- .. / delivered owner / asked (for an operation) / waits / asked (for the result): the job of the one before has the handle
+-- .. / delivered owner / asked (for an operation) / waits / asked (for the result): the job of the
+-- one before has the handle
 abbrev pub older_asked : List Moment
 older_asked = nine_put ▸ asks Operate 2 ▸ polls Waits 2 ▸ asks OperateAgain 2
 
@@ -99,9 +109,11 @@ inner_asked = reader_parked ▸ asks IntoInner 2
 
 -- .. / asked / closed wake 1 / delivered 1 entered / waits
 abbrev pub inner_waits : List Moment
-inner_waits = inner_asked ▸ polls (OwnerClosed (Some 1)) 2 ▸ polls (JobWoken 1 Entered) 2 ▸ polls Waits 2
+inner_waits =
+    inner_asked ▸ polls (OwnerClosed (Some 1)) 2 ▸ polls (JobWoken 1 Entered) 2 ▸ polls Waits 2
 
--- .. / took 1 / shut / closed / finished wake owner / delivered owner / ended 1 done / asked (for the handle, for good) / back
+-- .. / took 1 / shut / closed / finished wake owner / delivered owner / ended 1 done / asked (for
+-- the handle, for good) / back
 abbrev pub inner_back : List Moment
 inner_back = then_stopped inner_waits ▸ asks IntoInner 2 ▸ polls Back 2
 

@@ -4,20 +4,29 @@ use Rattle.blocking_core.specs.declared.io.Fault.{Fault}
 use Rattle.blocking_core.specs.declared.io.Fault.TheVariants as why
 use Rattle.blocking_world_laws.specs.Core.{same_position}
 use Rattle.blocking_world_laws.specs.Seen.{own, acts_of}
-use Rattle.blocking_world_laws.specs.JobTable.{Kind, Reading, Writing, Streaming, Seeking, fault, number}
-use Rattle.blocking_world_laws.specs.Sessions.{Session, call, last_session, has_begun, State, Closed, Idle, In, state}
+use Rattle.blocking_world_laws.specs.JobTable.{Kind, Reading, Writing, Streaming, Seeking, fault}
+use Rattle.blocking_world_laws.specs.JobTable.{number}
+use Rattle.blocking_world_laws.specs.Sessions.{Session, call, last_session, has_begun, State}
+use Rattle.blocking_world_laws.specs.Sessions.{Closed, Idle, In, state}
 use Rattle.blocking_world_laws.specs.declared.event.Act.{Act}
-use Rattle.blocking_world_laws.specs.declared.event.Act.TheVariants.{Asked, Accepted, Refused, OwnerClosed, JobWoken, Got, GotItem, GotEnd, Filled, FillShut, Back, ResultGot}
+use Rattle.blocking_world_laws.specs.declared.event.Act.TheVariants.{Asked, Accepted, Refused}
+use Rattle.blocking_world_laws.specs.declared.event.Act.TheVariants.{OwnerClosed, JobWoken, Got}
+use Rattle.blocking_world_laws.specs.declared.event.Act.TheVariants.{GotItem, GotEnd, Filled}
+use Rattle.blocking_world_laws.specs.declared.event.Act.TheVariants.{FillShut, Back, ResultGot}
 use Rattle.blocking_world_laws.specs.declared.event.Event.{Event}
 use Rattle.blocking_world_laws.specs.declared.event.Reply.{Reply}
-use Rattle.blocking_world_laws.specs.declared.event.Reply.TheVariants.{Okay, Count, OneItem, NoMore, Handle, Failed, NotBegun}
+use Rattle.blocking_world_laws.specs.declared.event.Reply.TheVariants.{Okay, Count, OneItem, NoMore}
+use Rattle.blocking_world_laws.specs.declared.event.Reply.TheVariants.{Handle, Failed, NotBegun}
 use Rattle.blocking_pool.specs.declared.pool.answer.Refusal.{Refusal}
 use Rattle.blocking_world_laws.specs.declared.step.HandleCall.{HandleCall}
-use Rattle.blocking_world_laws.specs.declared.step.HandleCall.TheVariants.{Read, Write, Flush, Close, Seek, Next, Operate, OperateAgain, GetMut, IntoInner}
+use Rattle.blocking_world_laws.specs.declared.step.HandleCall.TheVariants.{Read, Write, Flush}
+use Rattle.blocking_world_laws.specs.declared.step.HandleCall.TheVariants.{Close, Seek, Next}
+use Rattle.blocking_world_laws.specs.declared.step.HandleCall.TheVariants.{Operate, OperateAgain}
+use Rattle.blocking_world_laws.specs.declared.step.HandleCall.TheVariants.{GetMut, IntoInner}
 
--- The next action of a poll: it begins a session, closes the owner's end of the pipe, wakes this job, drains at most so many bytes,
--- fills the pipe with these, receives an item, looks into the job's slot, looks for the operation's result, or replies; or there is nothing
--- to do.
+-- The next action of a poll: it begins a session, closes the owner's end of the pipe, wakes this
+-- job, drains at most so many bytes, fills the pipe with these, receives an item, looks into the
+-- job's slot, looks for the operation's result, or replies; or there is nothing to do.
 pub data OwnerAction : Type 0 where
   Begin : OwnerAction
   CloseOwn : OwnerAction
@@ -30,9 +39,10 @@ pub data OwnerAction : Type 0 where
   Say : Reply → OwnerAction
   Rest : OwnerAction
 
--- The table: what a call does where the handle is there. From a session that isn't its own it stops that: it closes the owner's end
--- where that is open, and looks for the handle; a seek looks for the handle in its own session too. A flush and a close have no session of
--- their own, and of an idle handle nothing is left to be written.
+-- The table: what a call does where the handle is there. From a session that isn't its own it stops
+-- that: it closes the owner's end where that is open, and looks for the handle; a seek looks for
+-- the handle in its own session too. A flush and a close have no session of their own, and of an
+-- idle handle nothing is left to be written.
 abbrev pub table : HandleCall → State → OwnerAction
 table (Read zero) at = Say (Count 0)
 table (Write []) at = Say (Count 0)
@@ -52,13 +62,14 @@ table call (In Writing true) = CloseOwn
 table call (In Streaming true) = CloseOwn
 table call at = PollSlot
 
--- what a call does that was just asked: one for the result of an operation whose session has begun looks for it, any other goes by the
--- table
+-- what a call does that was just asked: one for the result of an operation whose session has begun
+-- looks for it, any other goes by the table
 abbrev pub at_asked : HandleCall → Bool → State → OwnerAction
 at_asked OperateAgain true at = PollPlace
 at_asked call begun at = table call at
 
--- what the call does whose session was just begun: an operation looks for its result, any other goes by the table
+-- what the call does whose session was just begun: an operation looks for its result, any other
+-- goes by the table
 abbrev pub at_accepted : Option HandleCall → State → OwnerAction
 at_accepted None at = Rest
 at_accepted (Some Operate) at = PollPlace
@@ -81,8 +92,9 @@ tells_faults GetMut = false
 tells_faults IntoInner = false
 tells_faults _ = true
 
--- what a call does once the handle is back from a session of this kind, whose job was answered this number last: the end where it saw that; a
--- seek tells where the handle is, if that job moved it to the very position; else what the call does with an idle handle
+-- what a call does once the handle is back from a session of this kind, whose job was answered this
+-- number last: the end where it saw that; a seek tells where the handle is, if that job moved it to
+-- the very position; else what the call does with an idle handle
 abbrev pub after_end : HandleCall → Bool → Kind → ℕ → OwnerAction
 after_end Next true kind n = Say NoMore
 after_end call true kind n = Say (Count 0)
@@ -92,7 +104,8 @@ after_end call false kind n = table call Idle
 -- what follows once the handle is back: its fault, where there is one and the call tells it
 abbrev pub after_back : HandleCall → Option (Fault ℕ) → Bool → Kind → ℕ → OwnerAction
 after_back call None ended kind n = after_end call ended kind n
-after_back call (Some found) ended kind n = if tells_faults call then Say (Failed found) else after_end call ended kind n
+after_back call (Some found) ended kind n =
+    if tells_faults call then Say (Failed found) else after_end call ended kind n
 
 -- whether the owner has just seen the pipe's end
 abbrev pub is_at_end : List Act → Bool
@@ -102,7 +115,8 @@ is_at_end _ = false
 -- what follows once the handle is back, by the call and the session
 abbrev pub at_back : Option HandleCall → Option Session → Bool → List Event → OwnerAction
 at_back (Some call) (Some s) ended cut =
-    after_back call (fault s.kind (acts_of s.serial cut)) ended s.kind (number (acts_of s.serial cut))
+    after_back call (fault s.kind (acts_of s.serial cut)) ended s.kind
+    (number (acts_of s.serial cut))
 at_back _ _ ended cut = Rest
 
 -- what follows the owner's last act, were no job to be woken first
@@ -138,7 +152,8 @@ deliver_first None action = action
 -- the owner's next action, by its own acts
 abbrev pub next_of_owner_by : List Event → List Act → OwnerAction
 next_of_owner_by cut [] = Rest
-next_of_owner_by cut (act ∷ past) = deliver_first (note_in act) (owner_next_but_wake cut (act ∷ past))
+next_of_owner_by cut (act ∷ past) =
+    deliver_first (note_in act) (owner_next_but_wake cut (act ∷ past))
 
 -- the owner's next action, by its cut
 abbrev pub next_of_owner : List Event → OwnerAction

@@ -1,4 +1,5 @@
--- Short traces with owners, for the theorems that show what their laws accept and refuse. They are written as those of `Traces`.
+-- Short traces with owners, for the theorems that show what their laws accept and refuse. They are
+-- written as those of `Traces`.
 use Rattle.std.specs.Prelude.{ℕ, List, [], ◌∷◌, Some, None}
 use Rattle.blocking_pool.specs.declared.pool.answer.Woke.TheVariants.{Entered}
 use Rattle.blocking_pool.specs.declared.pool.standing.Standing.TheVariants.{Parked, Done}
@@ -9,7 +10,14 @@ use Rattle.blocking_world_laws.specs.OwnerLaws.{OwnerLaw, OwnerLaws}
 use Rattle.blocking_world_laws.specs.OwnerWakes.{IsNotLost, ParksRightly}
 use Rattle.blocking_world_laws.specs.Traces.{◌▸◌, moment, starting, of_owner}
 use Rattle.blocking_world_laws.specs.declared.event.Act.{Act}
-use Rattle.blocking_world_laws.specs.declared.event.Act.TheVariants.{Made, Asked, Accepted, OwnerClosed, JobWoken, Got, GotEnd, Back, Replied, Waits, HolderDropped, Arrived, Took, Ended, Answered, RoomFree, RoomShut, JobParked, Put, JobClosed, Finished, HolderWoken}
+use Rattle.blocking_world_laws.specs.declared.event.Act.TheVariants.{Made, Asked, Accepted}
+use Rattle.blocking_world_laws.specs.declared.event.Act.TheVariants.{OwnerClosed, JobWoken, Got}
+use Rattle.blocking_world_laws.specs.declared.event.Act.TheVariants.{GotEnd, Back, Replied, Waits}
+use Rattle.blocking_world_laws.specs.declared.event.Act.TheVariants.{HolderDropped, Arrived, Took}
+use Rattle.blocking_world_laws.specs.declared.event.Act.TheVariants.{Ended, Answered, RoomFree}
+use Rattle.blocking_world_laws.specs.declared.event.Act.TheVariants.{RoomShut, JobParked, Put}
+use Rattle.blocking_world_laws.specs.declared.event.Act.TheVariants.{JobClosed, Finished}
+use Rattle.blocking_world_laws.specs.declared.event.Act.TheVariants.{HolderWoken}
 use Rattle.blocking_world_laws.specs.declared.event.HolderWaker.TheVariants.{Taken, Absent}
 use Rattle.blocking_world_laws.specs.declared.event.Moment.{Moment}
 use Rattle.blocking_world_laws.specs.declared.event.Party.TheVariants.{Owner, Worker}
@@ -18,7 +26,8 @@ use Rattle.blocking_world_laws.specs.declared.step.Answer.{Answer}
 use Rattle.blocking_world_laws.specs.declared.step.Answer.TheVariants.{Gave, Failed}
 use Rattle.blocking_world_laws.specs.declared.step.HandleCall.{HandleCall}
 use Rattle.blocking_world_laws.specs.declared.step.HandleCall.TheVariants.{Read, GetMut}
-use Rattle.blocking_world_laws.specs.declared.step.Step.TheVariants.{New, Ask, Own, DropOwner, Arrive, Take, Job, Io, End}
+use Rattle.blocking_world_laws.specs.declared.step.Step.TheVariants.{New, Ask, Own, DropOwner}
+use Rattle.blocking_world_laws.specs.declared.step.Step.TheVariants.{Arrive, Take, Job, Io, End}
 
 -- ---- how they are written
 
@@ -154,7 +163,8 @@ end_given = four_read ▸ takes 1 (Took 1) ▸ works 1 (RoomFree 4) ▸ given 1 
 
 -- .. / answered - / closed / finished / ended 1 done
 abbrev pub reader_done : List Moment
-reader_done = end_given ▸ works 1 (JobClosed Absent) ▸ works 1 (Finished Absent) ▸ ends 1 (Ended 1 Done)
+reader_done =
+    end_given ▸ works 1 (JobClosed Absent) ▸ works 1 (Finished Absent) ▸ ends 1 (Ended 1 Done)
 
 -- .. / ended 1 done / asked / got end
 abbrev pub end_seen : List Moment
@@ -194,7 +204,8 @@ stop_finished = stop_closed ▸ works 1 (Finished Taken) ▸ works 1 HolderWoken
 abbrev pub stop_back : List Moment
 stop_back = stop_finished ▸ asks GetMut 2 ▸ polls Back 2
 
--- .. / replied ok 2 / asked (for the handle) / closed / took 1 / shut / closed / finished / ended 1 done / asked / back
+-- .. / replied ok 2 / asked (for the handle) / closed / took 1 / shut / closed / finished / ended 1
+-- done / asked / back
 abbrev pub all_stopped_back : List Moment
 all_stopped_back = four_read
     ▸ asks GetMut 2
@@ -217,7 +228,8 @@ failed = room_found ▸ given 1 (Failed 8)
 
 -- .. / answered fault 8 / closed wake owner / delivered owner / finished / ended 1 done
 abbrev pub failed_done : List Moment
-failed_done = failed ▸ works 1 (JobClosed Taken) ▸ works 1 HolderWoken ▸ works 1 (Finished Absent) ▸ ends 1 (Ended 1 Done)
+failed_done = failed ▸ works 1 (JobClosed Taken) ▸ works 1 HolderWoken ▸ works 1 (Finished Absent) ▸
+    ends 1 (Ended 1 Done)
 
 -- .. / ended 1 done / asked / got end / back
 abbrev pub failed_back : List Moment
@@ -241,7 +253,8 @@ untold_job = reader_parked
     ▸ polls (Replied (Count 4)) 2
     ▸ asks (Read 4) 2
 
--- .. / delivered 1 entered / replied ok 2 / asked / waits / took 1 / parked: a wake was delivered, but before the wait
+-- .. / delivered 1 entered / replied ok 2 / asked / waits / took 1 / parked: a wake was delivered,
+-- but before the wait
 abbrev pub told_before : List Moment
 told_before = two_told
     ▸ polls (Replied (Count 2)) 2

@@ -1,10 +1,14 @@
--- What passed in a session: what the handle gave, what the owner got, and what is inside the pipe. Items go by their numbers, as bytes do.
-use Rattle.std.specs.Prelude.{ℕ, ◌+◌, ◌-◌, ◌≤◌, List, [], ◌∷◌, ◌++◌, length, take, drop, Option, Some, None, map, filter, not, ◌&&◌, Bool, false}
-use Rattle.blocking_world_laws.specs.Seen.{IsBeginning, own, is_this, is_of_pool, is_nothing, is_some_worker}
+-- What passed in a session: what the handle gave, what the owner got, and what is inside the pipe.
+-- Items go by their numbers, as bytes do.
+use Rattle.std.specs.Prelude.{ℕ, ◌+◌, ◌-◌, ◌≤◌, List, [], ◌∷◌, ◌++◌, length, take, drop, Option}
+use Rattle.std.specs.Prelude.{Some, None, map, filter, not, ◌&&◌, Bool, false}
+use Rattle.blocking_world_laws.specs.Seen.{IsBeginning, own, is_this, is_of_pool, is_nothing}
+use Rattle.blocking_world_laws.specs.Seen.{is_some_worker}
 use Rattle.blocking_world_laws.specs.JobTable.{Kind, Calling, Reading, Writing, Streaming}
 use Rattle.blocking_world_laws.specs.Sessions.{Session, last_session, call, capacity}
 use Rattle.blocking_world_laws.specs.declared.event.Act.{Act}
-use Rattle.blocking_world_laws.specs.declared.event.Act.TheVariants.{Accepted, Got, GotItem, Filled, Answered, Put, Peeked, Taken}
+use Rattle.blocking_world_laws.specs.declared.event.Act.TheVariants.{Accepted, Got, GotItem, Filled}
+use Rattle.blocking_world_laws.specs.declared.event.Act.TheVariants.{Answered, Put, Peeked, Taken}
 use Rattle.blocking_world_laws.specs.declared.event.Event.{Event}
 use Rattle.blocking_world_laws.specs.declared.step.Answer.{Answer}
 use Rattle.blocking_world_laws.specs.declared.step.Answer.TheVariants.{Number, Gave, Item}
@@ -40,7 +44,8 @@ abbrev pub data_of : Option HandleCall → List ℕ
 data_of (Some (Write bytes)) = bytes
 data_of _ = []
 
--- what was accepted of the owner's writes since its last session began: of each write as many of the first bytes as went in
+-- what was accepted of the owner's writes since its last session began: of each write as many of
+-- the first bytes as went in
 abbrev pub accepted : List Act → List ℕ
 accepted [] = []
 accepted (Accepted s ∷ past) = []
@@ -72,7 +77,8 @@ answered [] = []
 answered (Answered answer ∷ past) = carried answer
 answered (_ ∷ past) = answered past
 
--- what the job put into the pipe: of each piece that it was given as many of the first bytes as it put, and each item that it sent
+-- what the job put into the pipe: of each piece that it was given as many of the first bytes as it
+-- put, and each item that it sent
 abbrev pub was_put : List Act → List ℕ
 was_put [] = []
 was_put (Put n waker ∷ past) = was_put past ++ take n (answered past)
@@ -84,7 +90,8 @@ removed [] = 0
 removed (Taken n waker ∷ past) = n + removed past
 removed (_ ∷ past) = removed past
 
--- what is inside a pipe, by the acts of its owner and of its job: what was put and not got yet, or what was accepted and not taken out yet
+-- what is inside a pipe, by the acts of its owner and of its job: what was put and not got yet, or
+-- what was accepted and not taken out yet
 abbrev pub inside_by : Kind → List Act → List Act → List ℕ
 inside_by Reading owner job = drop (length (got owner)) (was_put job)
 inside_by Streaming owner job = drop (length (got owner)) (was_put job)
@@ -98,7 +105,8 @@ is_serial (Some s) job = is_this s.serial job
 
 -- whether an event is an act of this session's job
 abbrev pub is_of_session : Option Session → Event → Bool
-is_of_session last e = not (is_of_pool e.act) && not (is_nothing e.act) && is_some_worker e.party && is_serial last e.job
+is_of_session last e = not (is_of_pool e.act) && not (is_nothing e.act) && is_some_worker e.party
+    && is_serial last e.job
 
 -- the acts of the last session's job, the newest first
 abbrev pub last_job : List Event → List Act
@@ -121,13 +129,15 @@ inside cut = inside_by (last_kind cut) (own cut) (last_job cut)
 abbrev pub room_in : List Event → ℕ
 room_in cut = capacity (last_kind cut) (own cut) - length (inside cut)
 
--- how many items a job of this kind may have in hand beside what is inside: one, if it fetches items
+-- how many items a job of this kind may have in hand beside what is inside: one, if it fetches
+-- items
 abbrev pub in_hand : Kind → ℕ
 in_hand Streaming = 1
 in_hand _ = 0
 
--- In the last session the owner got a beginning of what its handle gave, and its writer took a beginning of what was accepted; no more is
--- inside than the pipe holds; and the handle gave no more than what the owner got and what the pipe holds, and one item.
+-- In the last session the owner got a beginning of what its handle gave, and its writer took a
+-- beginning of what was accepted; no more is inside than the pipe holds; and the handle gave no
+-- more than what the owner got and what the pipe holds, and one item.
 pub record PassesOn (cut : List Event) : Type 0 where
   pub read : IsBeginning (got (own cut)) (gave (last_job cut))
   pub written : IsBeginning (taken (last_job cut)) (accepted (own cut))

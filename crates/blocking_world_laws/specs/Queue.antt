@@ -1,20 +1,24 @@
 -- The queue: what entered it, what was taken out of it, and which queued jobs are ready.
-use Rattle.std.specs.Prelude.{◌≡◌, ℕ, ◌==◌, ◌&&◌, if◌then◌else◌, Bool, List, [], ◌∷◌, length, filter, Option, None}
+use Rattle.std.specs.Prelude.{◌≡◌, ℕ, ◌==◌, ◌&&◌, if◌then◌else◌, Bool, List, [], ◌∷◌, length}
+use Rattle.std.specs.Prelude.{filter, Option, None}
 use Rattle.blocking_pool.specs.declared.pool.answer.Woke.TheVariants.{Entered}
 use Rattle.blocking_pool.specs.declared.pool.standing.Standing.TheVariants.{Queued}
 use Rattle.blocking_world_laws.specs.Core.{is_below}
 use Rattle.blocking_world_laws.specs.Seen.{AtEveryBeginning, IsBeginning, without_all, joined}
 use Rattle.blocking_world_laws.specs.Jobs.{accepted_jobs, client, standing, is_parked, is_marked, sweeps}
 use Rattle.blocking_world_laws.specs.declared.event.Act.{Act}
-use Rattle.blocking_world_laws.specs.declared.event.Act.TheVariants.{Accepted, JobWoken, JobCancelled, ClientLimitSet, Took, TookDropped, Ended}
+use Rattle.blocking_world_laws.specs.declared.event.Act.TheVariants.{Accepted, JobWoken}
+use Rattle.blocking_world_laws.specs.declared.event.Act.TheVariants.{JobCancelled, ClientLimitSet}
+use Rattle.blocking_world_laws.specs.declared.event.Act.TheVariants.{Took, TookDropped, Ended}
 use Rattle.blocking_world_laws.specs.declared.event.Moment.{Moment}
 
--- What a sweep puts back: the jobs that are parked and bear a mark, in the order in which they were accepted.
+-- What a sweep puts back: the jobs that are parked and bear a mark, in the order in which they were
+-- accepted.
 abbrev pub to_sweep : List Moment → List ℕ
 to_sweep past = filter (λ s. is_parked (standing past s) && is_marked past s) (accepted_jobs past)
 
--- The jobs that an act enters into the queue: a new job; one that a wake or a cancel puts back; one whose turn ended and
--- that goes on; and what a sweep puts back.
+-- The jobs that an act enters into the queue: a new job; one that a wake or a cancel puts back; one
+-- whose turn ended and that goes on; and what a sweep puts back.
 abbrev pub entered_by : List Moment → Act → List ℕ
 entered_by past (Accepted s) = s ∷ []
 entered_by past (JobWoken s Entered) = s ∷ []
@@ -51,7 +55,8 @@ ended_by _ = []
 -- the running jobs: those that were taken and whose turn has not ended
 abbrev pub running : List Moment → List ℕ
 running [] = []
-running (now ∷ past) = joined (without_all (ended_by now.event.act) (running past)) (taken_by now.event.act)
+running (now ∷ past) =
+    joined (without_all (ended_by now.event.act) (running past)) (taken_by now.event.act)
 
 -- the client limit after an act that sets it or takes it away; any other act leaves it as it was
 abbrev pub client_limit_by : Act → Option ℕ → Option ℕ

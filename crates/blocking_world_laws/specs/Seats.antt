@@ -1,4 +1,5 @@
--- The seats: who waits where. A poll that waits seats its waker; the act that answers it takes the waker out, and bears the wake.
+-- The seats: who waits where. A poll that waits seats its waker; the act that answers it takes the
+-- waker out, and bears the wake.
 use Rattle.std.specs.Prelude.{Bool, true, false, List, [], ◌∷◌}
 use Rattle.blocking_world_laws.specs.declared.event.Act.{Act}
 use Rattle.blocking_world_laws.specs.declared.event.Act.TheVariants.{Waits, Finished, GaveUp}
@@ -6,7 +7,8 @@ use Rattle.blocking_world_laws.specs.declared.event.Event.{Event}
 use Rattle.blocking_world_laws.specs.declared.event.HolderWaker.{HolderWaker}
 use Rattle.blocking_world_laws.specs.declared.event.HolderWaker.TheVariants.{Taken, Absent}
 
--- whether a waker is seated after an act. Nothing else empties a seat: no cancel, no detaching, no drop of the task.
+-- whether a waker is seated after an act. Nothing else empties a seat: no cancel, no detaching, no
+-- drop of the task.
 abbrev pub seated_by : Act → Bool → Bool
 seated_by Waits before = true
 seated_by (Finished waker) before = false

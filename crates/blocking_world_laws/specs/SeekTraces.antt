@@ -1,11 +1,15 @@
--- Short traces with owners that seek, for the theorems that show what their laws accept and refuse. They are written as those of
--- `OwnerTraces`.
+-- Short traces with owners that seek, for the theorems that show what their laws accept and refuse.
+-- They are written as those of `OwnerTraces`.
 use Rattle.std.specs.Prelude.{List, None, pos}
 use Rattle.blocking_core.specs.declared.io.Position.TheVariants.{Start, Current}
 use Rattle.blocking_pool.specs.declared.pool.standing.Standing.TheVariants.{Done}
 use Rattle.blocking_world_laws.specs.Traces.{◌▸◌, moment, starting}
-use Rattle.blocking_world_laws.specs.OwnerTraces.{asks, polls, takes, works, given, ends, one_made, two_told}
-use Rattle.blocking_world_laws.specs.declared.event.Act.TheVariants.{Accepted, OwnerClosed, Back, Replied, Waits, Arrived, Took, Ended, RoomShut, JobClosed, Finished, HolderWoken}
+use Rattle.blocking_world_laws.specs.OwnerTraces.{asks, polls, takes, works, given, ends, one_made}
+use Rattle.blocking_world_laws.specs.OwnerTraces.{two_told}
+use Rattle.blocking_world_laws.specs.declared.event.Act.TheVariants.{Accepted, OwnerClosed, Back}
+use Rattle.blocking_world_laws.specs.declared.event.Act.TheVariants.{Replied, Waits, Arrived, Took}
+use Rattle.blocking_world_laws.specs.declared.event.Act.TheVariants.{Ended, RoomShut, JobClosed}
+use Rattle.blocking_world_laws.specs.declared.event.Act.TheVariants.{Finished, HolderWoken}
 use Rattle.blocking_world_laws.specs.declared.event.HolderWaker.TheVariants.{Taken, Absent}
 use Rattle.blocking_world_laws.specs.declared.event.Moment.{Moment}
 use Rattle.blocking_world_laws.specs.declared.event.Party.TheVariants.{Worker}
@@ -20,7 +24,8 @@ use Rattle.blocking_world_laws.specs.declared.step.Step.TheVariants.{Arrive}
 abbrev pub seek_asked : List Moment
 seek_asked = two_told ▸ polls (Replied (Count 2)) 2 ▸ asks (Seek (Current (pos 0))) 2
 
--- .. / asked / closed / waits / took 1 / shut / closed / finished wake owner / delivered owner / ended 1 done
+-- .. / asked / closed / waits / took 1 / shut / closed / finished wake owner / delivered owner /
+-- ended 1 done
 abbrev pub reading_over : List Moment
 reading_over = seek_asked
     ▸ polls (OwnerClosed None) 2

@@ -1,8 +1,11 @@
--- What was seen. A past is the list of the moments so far, the newest first: a beginning of the trace is a tail of it.
-use Rattle.std.specs.Prelude.{◌≡◌, ℕ, ◌==◌, ◌&&◌, ◌||◌, not, Bool, true, false, List, [], ◌∷◌, ◌++◌, map, filter, Option, Some, None}
+-- What was seen. A past is the list of the moments so far, the newest first: a beginning of the
+-- trace is a tail of it.
+use Rattle.std.specs.Prelude.{◌≡◌, ℕ, ◌==◌, ◌&&◌, ◌||◌, not, Bool, true, false, List, [], ◌∷◌, ◌++◌}
+use Rattle.std.specs.Prelude.{map, filter, Option, Some, None}
 use Rattle.blocking_pool.specs.Lists.{without}
 use Rattle.blocking_world_laws.specs.declared.event.Act.{Act}
-use Rattle.blocking_world_laws.specs.declared.event.Act.TheVariants.{Took, TookDropped, Ended, HandedOut, NoAction}
+use Rattle.blocking_world_laws.specs.declared.event.Act.TheVariants.{Took, TookDropped, Ended}
+use Rattle.blocking_world_laws.specs.declared.event.Act.TheVariants.{HandedOut, NoAction}
 use Rattle.blocking_world_laws.specs.declared.event.Event.{Event}
 use Rattle.blocking_world_laws.specs.declared.event.Moment.{Moment}
 use Rattle.blocking_world_laws.specs.declared.event.Party.{Party}
@@ -81,9 +84,11 @@ abbrev pub is_nothing : Act → Bool
 is_nothing NoAction = true
 is_nothing _ = false
 
--- whether an event is an act of this job: a worker's, with the job's serial, and none that the pool decides
+-- whether an event is an act of this job: a worker's, with the job's serial, and none that the pool
+-- decides
 abbrev pub is_of_job : ℕ → Event → Bool
-is_of_job s e = not (is_of_pool e.act) && not (is_nothing e.act) && is_some_worker e.party && is_this s e.job
+is_of_job s e =
+    not (is_of_pool e.act) && not (is_nothing e.act) && is_some_worker e.party && is_this s e.job
 
 -- whether an event is an act of this task
 abbrev pub is_by_task : ℕ → Event → Bool
@@ -101,11 +106,13 @@ acts_of_task k seen = map (λ e. e.act) (filter (is_by_task k) seen)
 abbrev pub task_cut : ℕ → ℕ → List Event → List Event
 task_cut k s seen = filter (λ e. is_by_task k e || is_of_job s e) seen
 
--- whether an event is of this owner or of one of its jobs: none that the pool decides, and something was done
+-- whether an event is of this owner or of one of its jobs: none that the pool decides, and
+-- something was done
 abbrev pub is_in_cut : ℕ → Event → Bool
 is_in_cut h e = not (is_of_pool e.act) && not (is_nothing e.act) && (is_owner h e.party || is_some_worker e.party && is_this h e.owner)
 
--- The cut of an owner: the events of the owner and of its jobs. The laws of an owner see nothing else.
+-- The cut of an owner: the events of the owner and of its jobs. The laws of an owner see nothing
+-- else.
 abbrev pub cut : ℕ → List Event → List Event
 cut h seen = filter (is_in_cut h) seen
 

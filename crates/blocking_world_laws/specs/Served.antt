@@ -13,7 +13,8 @@ last_refused_by (suc count) false before = false
 -- whether the last start that was tried was refused
 abbrev pub last_refused : List Moment → Bool
 last_refused [] = false
-last_refused (now ∷ past) = last_refused_by now.event.started now.event.start_refused (last_refused past)
+last_refused (now ∷ past) =
+    last_refused_by now.event.started now.event.start_refused (last_refused past)
 
 -- Where jobs are queued and no worker is left, the last start that was tried was refused.
 abbrev pub IsServed : List Moment → Type 0

@@ -1,12 +1,19 @@
 -- What an owner is doing, read from its own acts, the newest first.
-use Rattle.std.specs.Prelude.{ℕ, ◌==◌, ◌&&◌, ◌||◌, not, if◌then◌else◌, Bool, true, false, List, [], ◌∷◌, Option, Some, None}
-use Rattle.blocking_world_laws.specs.JobTable.{Kind, Calling, Reading, Writing, Streaming, Seeking, Operating}
+use Rattle.std.specs.Prelude.{ℕ, ◌==◌, ◌&&◌, ◌||◌, not, if◌then◌else◌, Bool, true, false, List, []}
+use Rattle.std.specs.Prelude.{◌∷◌, Option, Some, None}
+use Rattle.blocking_world_laws.specs.JobTable.{Kind, Calling, Reading, Writing, Streaming, Seeking}
+use Rattle.blocking_world_laws.specs.JobTable.{Operating}
 use Rattle.blocking_world_laws.specs.declared.event.Act.{Act}
-use Rattle.blocking_world_laws.specs.declared.event.Act.TheVariants.{Made, Asked, Accepted, OwnerClosed, Waits, Back, Replied, HolderDropped}
+use Rattle.blocking_world_laws.specs.declared.event.Act.TheVariants.{Made, Asked, Accepted}
+use Rattle.blocking_world_laws.specs.declared.event.Act.TheVariants.{OwnerClosed, Waits, Back}
+use Rattle.blocking_world_laws.specs.declared.event.Act.TheVariants.{Replied, HolderDropped}
 use Rattle.blocking_world_laws.specs.declared.event.Reply.{Reply}
 use Rattle.blocking_world_laws.specs.declared.event.Reply.TheVariants.{Okay}
 use Rattle.blocking_world_laws.specs.declared.step.HandleCall.{HandleCall}
-use Rattle.blocking_world_laws.specs.declared.step.HandleCall.TheVariants.{Read, Write, Flush, Close, Seek, Next, Operate, OperateAgain, IntoInner}
+use Rattle.blocking_world_laws.specs.declared.step.HandleCall.TheVariants.{Read, Write, Flush}
+use Rattle.blocking_world_laws.specs.declared.step.HandleCall.TheVariants.{Close, Seek, Next}
+use Rattle.blocking_world_laws.specs.declared.step.HandleCall.TheVariants.{Operate, OperateAgain}
+use Rattle.blocking_world_laws.specs.declared.step.HandleCall.TheVariants.{IntoInner}
 
 -- ---- polls
 
@@ -105,11 +112,13 @@ abbrev pub is_again : HandleCall → Bool
 is_again OperateAgain = true
 is_again _ = false
 
--- whether the owner may be asked for this: once its handle is gone only to flush and to close, once its handle was asked for for good only
--- for that, and for the result of an operation only where one is pending
+-- whether the owner may be asked for this: once its handle is gone only to flush and to close, once
+-- its handle was asked for for good only for that, and for the result of an operation only where
+-- one is pending
 abbrev pub may_ask : List Act → HandleCall → Bool
 may_ask acts c =
-    rests acts && (not (is_closed acts) || is_for_closed c) && (not (was_asked_inner acts) || is_into_inner (Some c))
+    rests acts && (not (is_closed acts) || is_for_closed c)
+    && (not (was_asked_inner acts) || is_into_inner (Some c))
     && (not (is_again c) || is_pending_operation acts)
 
 -- ---- sessions
@@ -161,19 +170,22 @@ kind_of_job s [] = Calling
 kind_of_job s (Accepted t ∷ past) = if t == s then kind_of (call past) else kind_of_job s past
 kind_of_job s (_ ∷ past) = kind_of_job s past
 
--- how many bytes, or items, the pipe of a session of this kind holds, where the owner names no number
+-- how many bytes, or items, the pipe of a session of this kind holds, where the owner names no
+-- number
 abbrev pub default_capacity : Kind → ℕ
 default_capacity Streaming = 8192
 default_capacity _ = 8388608
 
--- how many bytes, or items, the pipe of a session of this kind holds: the number that its owner was made with, or the default
+-- how many bytes, or items, the pipe of a session of this kind holds: the number that its owner was
+-- made with, or the default
 abbrev pub capacity : Kind → List Act → ℕ
 capacity kind [] = 0
 capacity kind (Made h n ∷ past) = if n == 0 then default_capacity kind else n
 capacity kind (_ ∷ past) = capacity kind past
 
--- Where the handle is: nowhere after a close, with its owner, or with the job of a session of this kind, with the owner's end of the pipe
--- open or not. Of a session without a pipe it counts as open.
+-- Where the handle is: nowhere after a close, with its owner, or with the job of a session of this
+-- kind, with the owner's end of the pipe open or not. Of a session without a pipe it counts as
+-- open.
 pub data State : Type 0 where
   Closed : State
   Idle : State

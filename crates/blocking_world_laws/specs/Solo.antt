@@ -17,8 +17,8 @@ abbrev pub is_without_refusal : List Event → Bool
 is_without_refusal [] = true
 is_without_refusal (e ∷ more) = not (is_refusal e.act) && is_without_refusal more
 
--- What owner h may see where it is alone: its own events and those of its jobs, none of them a refusal, by its own laws, which name no
--- pool, no worker's number and no other owner.
+-- What owner h may see where it is alone: its own events and those of its jobs, none of them a
+-- refusal, by its own laws, which name no pool, no worker's number and no other owner.
 pub record Solo (h : ℕ) (seen : List Event) : Type 0 where
   pub own : cut h seen ≡ seen
   pub sound : is_without_refusal seen ≡ true
@@ -26,4 +26,5 @@ pub record Solo (h : ℕ) (seen : List Event) : Type 0 where
 
 -- Where no new job was refused, each owner saw what it might have seen alone, the replies among it.
 abbrev pub AreIndependent : List Moment → Type 0
-AreIndependent past = is_without_refusal (events past) ≡ true → (h : ℕ) → Solo h (cut h (events past))
+AreIndependent past = is_without_refusal (events past) ≡ true → (h : ℕ)
+    → Solo h (cut h (events past))

@@ -1,4 +1,5 @@
--- What the workers hold: each that arrived and hasn't stopped holds a pass, and is idle, or the turn of a job that runs.
+-- What the workers hold: each that arrived and hasn't stopped holds a pass, and is idle, or the
+-- turn of a job that runs.
 use Rattle.std.specs.Prelude.{◌≡◌, ℕ, zero, suc, ◌+◌, ◌-◌, Bool, List, length, is_some}
 use Rattle.blocking_pool.specs.Jobs.{one_if}
 use Rattle.blocking_world_laws.specs.Counts.{starts, arrivals, workers, idle}
@@ -24,8 +25,8 @@ turns past = count_to (λ w. is_some (hand past w)) (arrivals past)
 abbrev pub unarrived : List Moment → ℕ
 unarrived past = starts past - arrivals past
 
--- The workers are those that hold these passes and turns and those that haven't arrived; the idle ones are the same without the
--- turns; and there is one turn for each running job.
+-- The workers are those that hold these passes and turns and those that haven't arrived; the idle
+-- ones are the same without the turns; and there is one turn for each running job.
 pub record IsStaffed (held_passes held_turns : ℕ) (past : List Moment) : Type 0 where
   pub all_are : workers past ≡ held_passes + held_turns + unarrived past
   pub idle_are : idle past ≡ held_passes + unarrived past

@@ -1,17 +1,32 @@
 -- Steps and their events: which steps have an action, and what is seen of them.
-use Rattle.std.specs.Prelude.{◌≡◌, ℕ, ◌+◌, nat_lt, ◌&&◌, ◌||◌, ◌==◌, not, if◌then◌else◌, Bool, true, false, List, [], ◌∷◌, length, filter, Option, Some, None, is_some, is_none}
+use Rattle.std.specs.Prelude.{◌≡◌, ℕ, ◌+◌, nat_lt, ◌&&◌, ◌||◌, ◌==◌, not, if◌then◌else◌, Bool, true}
+use Rattle.std.specs.Prelude.{false, List, [], ◌∷◌, length, filter, Option, Some, None, is_some}
+use Rattle.std.specs.Prelude.{is_none}
 use Rattle.blocking_pool.specs.declared.pool.answer.Refusal.TheVariants.{Memory}
 use Rattle.blocking_world_laws.specs.Seen.{events, acts_of, acts_of_task, acts_of_owner, is_of_pool, is_nothing}
 use Rattle.blocking_world_laws.specs.Jobs.{tasks, holder, as_owner}
 use Rattle.blocking_world_laws.specs.Counts.{starts, arrivals}
-use Rattle.blocking_world_laws.specs.Turns.{Turn, GoesOn, IsWaiting, MustGiveUp, HasGivenUp, turn, hand}
-use Rattle.blocking_world_laws.specs.JobTable.{Kind, Calling, JobAction, next_of_job, is_answer, is_asking, is_over}
-use Rattle.blocking_world_laws.specs.Sessions.{kind_of_job, may_ask, is_dropped, under_way, is_poll_over, rests, is_closed, was_asked_inner}
+use Rattle.blocking_world_laws.specs.Turns.{Turn, GoesOn, IsWaiting, MustGiveUp, HasGivenUp, turn}
+use Rattle.blocking_world_laws.specs.Turns.{hand}
+use Rattle.blocking_world_laws.specs.JobTable.{Kind, Calling, JobAction, next_of_job, is_answer}
+use Rattle.blocking_world_laws.specs.JobTable.{is_asking, is_over}
+use Rattle.blocking_world_laws.specs.Sessions.{kind_of_job, may_ask, is_dropped, under_way}
+use Rattle.blocking_world_laws.specs.Sessions.{is_poll_over, rests, is_closed, was_asked_inner}
 use Rattle.blocking_world_laws.specs.Lent.{Copier, copiers, copier_in, has_owner, links}
-use Rattle.blocking_world_laws.specs.Copies.{CopierAction, AskReader, AskWriter, Tells, next_of_copier}
+use Rattle.blocking_world_laws.specs.Copies.{CopierAction, AskReader, AskWriter, Tells}
+use Rattle.blocking_world_laws.specs.Copies.{next_of_copier}
 use Rattle.blocking_world_laws.specs.TaskLaws.{is_gone, was_cancelled, is_let_go}
 use Rattle.blocking_world_laws.specs.declared.event.Act.{Act}
-use Rattle.blocking_world_laws.specs.declared.event.Act.TheVariants.{Made, Asked, Accepted, Refused, JobWoken, JobCancelled, LimitSet, ClientLimitSet, Swept, Waits, TaskGot, TaskGotNone, TaskCancelled, TaskDetached, HolderDropped, Arrived, Took, TookDropped, TookNone, Stays, Stopped, Ended, HandedOut, Answered, Linked, NoAction}
+use Rattle.blocking_world_laws.specs.declared.event.Act.TheVariants.{Made, Asked, Accepted, Refused}
+use Rattle.blocking_world_laws.specs.declared.event.Act.TheVariants.{JobWoken, JobCancelled}
+use Rattle.blocking_world_laws.specs.declared.event.Act.TheVariants.{LimitSet, ClientLimitSet}
+use Rattle.blocking_world_laws.specs.declared.event.Act.TheVariants.{Swept, Waits, TaskGot}
+use Rattle.blocking_world_laws.specs.declared.event.Act.TheVariants.{TaskGotNone, TaskCancelled}
+use Rattle.blocking_world_laws.specs.declared.event.Act.TheVariants.{TaskDetached, HolderDropped}
+use Rattle.blocking_world_laws.specs.declared.event.Act.TheVariants.{Arrived, Took, TookDropped}
+use Rattle.blocking_world_laws.specs.declared.event.Act.TheVariants.{TookNone, Stays, Stopped}
+use Rattle.blocking_world_laws.specs.declared.event.Act.TheVariants.{Ended, HandedOut, Answered}
+use Rattle.blocking_world_laws.specs.declared.event.Act.TheVariants.{Linked, NoAction}
 use Rattle.blocking_world_laws.specs.declared.event.Moment.{Moment}
 use Rattle.blocking_world_laws.specs.declared.event.Party.{Party}
 use Rattle.blocking_world_laws.specs.declared.event.Party.TheVariants.{Owner, Task, Worker, Pool}
@@ -19,7 +34,11 @@ use Rattle.blocking_world_laws.specs.declared.event.WaitEnd.{WaitEnd}
 use Rattle.blocking_world_laws.specs.declared.event.WaitEnd.TheVariants.{Woken, TimedOut}
 use Rattle.blocking_world_laws.specs.declared.step.Answer.{Answer}
 use Rattle.blocking_world_laws.specs.declared.step.Step.{Step}
-use Rattle.blocking_world_laws.specs.declared.step.Step.TheVariants.{New, Ask, Own, DropOwner, Spawn, OfTask, Arrive, Take, Job, Io, End, Wait, Late, SetLimit, Sweep, Stray, Strike, SetClientLimit, Link, Copy}
+use Rattle.blocking_world_laws.specs.declared.step.Step.TheVariants.{New, Ask, Own, DropOwner}
+use Rattle.blocking_world_laws.specs.declared.step.Step.TheVariants.{Spawn, OfTask, Arrive, Take}
+use Rattle.blocking_world_laws.specs.declared.step.Step.TheVariants.{Job, Io, End, Wait, Late}
+use Rattle.blocking_world_laws.specs.declared.step.Step.TheVariants.{SetLimit, Sweep, Stray, Strike}
+use Rattle.blocking_world_laws.specs.declared.step.Step.TheVariants.{SetClientLimit, Link, Copy}
 use Rattle.blocking_world_laws.specs.declared.step.TaskCall.{TaskCall}
 use Rattle.blocking_world_laws.specs.declared.step.TaskCall.TheVariants.{Poll, Cancel, Detach, Drop}
 
@@ -62,7 +81,8 @@ next_in_turn HasGivenUp action = if is_over action then EndsTurn else Does actio
 -- the next action of a worker with this job in its hand
 abbrev pub next_with : Option ℕ → List Moment → WorkerAction
 next_with None past = NoNext
-next_with (Some s) past = next_in_turn (turn past s) (next_of_job (kind_by (holder past s) past s) (acts_of s (events past)))
+next_with (Some s) past = next_in_turn (turn past s)
+    (next_of_job (kind_by (holder past s) past s) (acts_of s (events past)))
 
 -- the next action of a worker
 abbrev pub next_of_worker : List Moment → ℕ → WorkerAction
@@ -92,7 +112,8 @@ is_for_cancelled Poll = true
 is_for_cancelled Drop = true
 is_for_cancelled _ = false
 
--- whether a task with these own acts may be called so: it isn't gone, and after its cancel it is only polled and dropped
+-- whether a task with these own acts may be called so: it isn't gone, and after its cancel it is
+-- only polled and dropped
 abbrev pub may_call : List Act → TaskCall → Bool
 may_call acts c = not (is_gone acts) && (not (was_cancelled acts) || is_for_cancelled c)
 
@@ -115,8 +136,8 @@ may_cancel _ past = false
 
 -- ---- copiers
 
--- whether an owner may be lent to a copier: it is there with its handle, which wasn't asked for for good, no poll of it is under way, and it
--- belongs to no copier that has told no end
+-- whether an owner may be lent to a copier: it is there with its handle, which wasn't asked for for
+-- good, no poll of it is under way, and it belongs to no copier that has told no end
 abbrev pub may_lend : List Moment → ℕ → Bool
 may_lend past h =
     rests (acts_of_owner h (events past)) && not (is_closed (acts_of_owner h (events past)))
@@ -126,7 +147,8 @@ may_lend past h =
 abbrev pub may_copy : Option Copier → List Moment → Bool
 may_copy None past = false
 may_copy (Some c) past =
-    is_poll_over (under_way (acts_of_owner c.reader (events past))) && is_poll_over (under_way (acts_of_owner c.writer (events past)))
+    is_poll_over (under_way (acts_of_owner c.reader (events past)))
+    && is_poll_over (under_way (acts_of_owner c.writer (events past)))
 
 -- who takes a copier's step: the owner that it asks, or the pool where it tells its end
 abbrev pub asked_by : CopierAction → Copier → Party
@@ -157,13 +179,16 @@ abbrev pub may_limit : Option ℕ → Bool
 may_limit (Some n) = nat_lt 0 n
 may_limit None = true
 
--- Whether a step names a party that is there and has an action of that kind. An owner may always be made; it is asked where it may be, and
--- dropped where it rests, if it isn't lent to a copier; and its poll goes on while it is under way.
+-- Whether a step names a party that is there and has an action of that kind. An owner may always be
+-- made; it is asked where it may be, and dropped where it rests, if it isn't lent to a copier; and
+-- its poll goes on while it is under way.
 abbrev pub has_action : List Moment → Step → Bool
 has_action past (New capacity c) = true
-has_action past (Ask h call) = may_ask (acts_of_owner h (events past)) call && not (has_owner h (copiers past))
+has_action past (Ask h call) =
+    may_ask (acts_of_owner h (events past)) call && not (has_owner h (copiers past))
 has_action past (Own h) = not (is_poll_over (under_way (acts_of_owner h (events past))))
-has_action past (DropOwner h) = rests (acts_of_owner h (events past)) && not (has_owner h (copiers past))
+has_action past (DropOwner h) =
+    rests (acts_of_owner h (events past)) && not (has_owner h (copiers past))
 has_action past (Spawn c) = true
 has_action past (OfTask k c) = nat_lt k (tasks past) && may_call (acts_of_task k (events past)) c
 has_action past Arrive = nat_lt (arrivals past) (starts past)
@@ -195,7 +220,8 @@ named (Wait w) = Worker w
 named (Late w) = Worker w
 named step = Pool
 
--- who takes a step: the party that it names, the next owner or worker where one is made or arrives, and the owner whom a copier asks
+-- who takes a step: the party that it names, the next owner or worker where one is made or arrives,
+-- and the owner whom a copier asks
 abbrev pub party : List Moment → Step → Party
 party past (New capacity c) = Owner (owners past)
 party past Arrive = Worker (1 + arrivals past)
@@ -280,7 +306,8 @@ abbrev pub IsCancelOf : ℕ → Act → Type 0
 IsCancelOf s (JobCancelled t woke) = t ≡ s
 IsCancelOf s _ = ⊥
 
--- What is seen of a step is of its kind and has its numbers. What owners, tasks and jobs may do is the matter of their own laws.
+-- What is seen of a step is of its kind and has its numbers. What owners, tasks and jobs may do is
+-- the matter of their own laws.
 abbrev pub Fits : List Moment → Step → Act → Type 0
 Fits past (New capacity c) act = act ≡ Made (owners past) capacity
 Fits past (Ask h call) act = act ≡ Asked call
@@ -308,15 +335,18 @@ abbrev pub Happens : Bool → List Moment → Step → Act → Type 0
 Happens true past step act = (is_nothing act ≡ false) × Fits past step act
 Happens false past step act = act ≡ NoAction
 
--- The law of steps: nothing is done exactly where the step has no action; else the event is of the step's kind, by its
--- party, of its job and of that job's owner.
+-- The law of steps: nothing is done exactly where the step has no action; else the event is of the
+-- step's kind, by its party, of its job and of that job's owner.
 pub record StepLaw (past : List Moment) (now : Moment) : Type 0 where
   pub act : Happens (has_action past now.step) past now.step now.event.act
-  pub by : now.event.party ≡ (if is_nothing now.event.act then named now.step else party past now.step)
-  pub of : now.event.job ≡ (if is_nothing now.event.act then None else job_of past now.step now.event.act)
+  pub by : now.event.party
+      ≡ (if is_nothing now.event.act then named now.step else party past now.step)
+  pub of : now.event.job
+      ≡ (if is_nothing now.event.act then None else job_of past now.step now.event.act)
   pub owned : now.event.owner ≡ owner_of now.event.job past
 
--- whether a step is one that the pool answers: all but what tasks are asked and what polls and jobs do
+-- whether a step is one that the pool answers: all but what tasks are asked and what polls and jobs
+-- do
 abbrev pub is_pool_step : Step → Bool
 is_pool_step (Own h) = false
 is_pool_step (OfTask k c) = false

@@ -1,24 +1,44 @@
 -- The texts of events, as lists of bytes.
-use Rattle.std.specs.Prelude.{ℕ, zero, suc, ◌+◌, Bool, true, false, List, [], ◌++◌, length, codes, decimal, Option, Some, None}
+use Rattle.std.specs.Prelude.{ℕ, zero, suc, ◌+◌, Bool, true, false, List, [], ◌++◌, length, codes}
+use Rattle.std.specs.Prelude.{decimal, Option, Some, None}
 use Rattle.blocking_core.specs.declared.io.Fault.TheVariants as fault
 use Rattle.blocking_pool.specs.declared.pool.answer.Refusal.{Refusal}
 use Rattle.blocking_pool.specs.declared.pool.answer.Refusal.TheVariants.{Memory, NoWorker, Numbers}
 use Rattle.blocking_pool.specs.declared.pool.answer.Woke.{Woke}
 use Rattle.blocking_pool.specs.declared.pool.answer.Woke.TheVariants.{Entered, Marked, Nothing}
 use Rattle.blocking_pool.specs.declared.pool.standing.Standing.{Standing}
-use Rattle.blocking_pool.specs.declared.pool.standing.Standing.TheVariants.{Queued, Running, Parked, Done, Dropped}
+use Rattle.blocking_pool.specs.declared.pool.standing.Standing.TheVariants.{Queued, Running, Parked}
+use Rattle.blocking_pool.specs.declared.pool.standing.Standing.TheVariants.{Done, Dropped}
 use Rattle.blocking_world_laws.specs.Hex.{hex_text}
 use Rattle.blocking_world_laws.specs.declared.step.Answer.{Answer}
 use Rattle.blocking_world_laws.specs.declared.step.Answer.TheVariants as answer
 use Rattle.blocking_world_laws.specs.declared.event.Act.{Act}
-use Rattle.blocking_world_laws.specs.declared.event.Act.TheVariants.{Made, Asked, OwnerClosed, Got, GotItem, GotEnd, Filled, FillShut, Back, ResultGot, Replied, RoomFree, RoomShut, Put, Lost, Peeked, Drained, Taken as TakenOut, JobClosed, ResultPut, Accepted, Refused, JobWoken, JobCancelled, LimitSet, ClientLimitSet, Swept, Waits, TaskGot, TaskGotNone, TaskCancelled, TaskDetached, HolderDropped, Arrived, Took, TookDropped, TookNone, Stays, Stopped, Ended, HandedOut, Answered, JobParked, Finished, GaveUp, HolderWoken, Linked, Copied, CopyFailed, NoAction}
+use Rattle.blocking_world_laws.specs.declared.event.Act.TheVariants.{Made, Asked, OwnerClosed, Got}
+use Rattle.blocking_world_laws.specs.declared.event.Act.TheVariants.{GotItem, GotEnd, Filled}
+use Rattle.blocking_world_laws.specs.declared.event.Act.TheVariants.{FillShut, Back, ResultGot}
+use Rattle.blocking_world_laws.specs.declared.event.Act.TheVariants.{Replied, RoomFree, RoomShut}
+use Rattle.blocking_world_laws.specs.declared.event.Act.TheVariants.{Put, Lost, Peeked, Drained}
+use Rattle.blocking_world_laws.specs.declared.event.Act.TheVariants.{Taken as TakenOut, JobClosed}
+use Rattle.blocking_world_laws.specs.declared.event.Act.TheVariants.{ResultPut, Accepted, Refused}
+use Rattle.blocking_world_laws.specs.declared.event.Act.TheVariants.{JobWoken, JobCancelled}
+use Rattle.blocking_world_laws.specs.declared.event.Act.TheVariants.{LimitSet, ClientLimitSet}
+use Rattle.blocking_world_laws.specs.declared.event.Act.TheVariants.{Swept, Waits, TaskGot}
+use Rattle.blocking_world_laws.specs.declared.event.Act.TheVariants.{TaskGotNone, TaskCancelled}
+use Rattle.blocking_world_laws.specs.declared.event.Act.TheVariants.{TaskDetached, HolderDropped}
+use Rattle.blocking_world_laws.specs.declared.event.Act.TheVariants.{Arrived, Took, TookDropped}
+use Rattle.blocking_world_laws.specs.declared.event.Act.TheVariants.{TookNone, Stays, Stopped}
+use Rattle.blocking_world_laws.specs.declared.event.Act.TheVariants.{Ended, HandedOut, Answered}
+use Rattle.blocking_world_laws.specs.declared.event.Act.TheVariants.{JobParked, Finished, GaveUp}
+use Rattle.blocking_world_laws.specs.declared.event.Act.TheVariants.{HolderWoken, Linked, Copied}
+use Rattle.blocking_world_laws.specs.declared.event.Act.TheVariants.{CopyFailed, NoAction}
 use Rattle.blocking_world_laws.specs.declared.event.CopySide.{CopySide}
 use Rattle.blocking_world_laws.specs.declared.event.CopySide.TheVariants as side
 use Rattle.blocking_world_laws.specs.declared.event.Event.{Event}
 use Rattle.blocking_world_laws.specs.declared.event.HolderWaker.{HolderWaker}
 use Rattle.blocking_world_laws.specs.declared.event.HolderWaker.TheVariants.{Taken, Absent}
 use Rattle.blocking_world_laws.specs.declared.event.Reply.{Reply}
-use Rattle.blocking_world_laws.specs.declared.event.Reply.TheVariants.{Okay, Count, OneItem, NoMore, Handle, Failed, NotBegun}
+use Rattle.blocking_world_laws.specs.declared.event.Reply.TheVariants.{Okay, Count, OneItem, NoMore}
+use Rattle.blocking_world_laws.specs.declared.event.Reply.TheVariants.{Handle, Failed, NotBegun}
 
 -- why a job is refused
 abbrev pub refusal_text : Refusal → List ℕ
@@ -143,4 +163,5 @@ refused_text false number = []
 -- the text of an event: its act, the starts, and the start that was refused
 abbrev pub event_text : Event → List ℕ
 event_text event =
-    act_text event.act ++ starts_text event.first event.started ++ refused_text event.start_refused (event.first + event.started)
+    act_text event.act ++ starts_text event.first event.started
+    ++ refused_text event.start_refused (event.first + event.started)

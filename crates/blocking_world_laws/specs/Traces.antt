@@ -1,14 +1,22 @@
--- Short traces, for the theorems that show what each law accepts and what it refuses. They are written with the oldest moment
--- first; above each stand the texts of its events.
+-- Short traces, for the theorems that show what each law accepts and what it refuses. They are
+-- written with the oldest moment first; above each stand the texts of its events.
 use Rattle.std.specs.Prelude.{ℕ, Bool, true, false, List, [], ◌∷◌, Option, Some, None}
 use Rattle.blocking_pool.specs.declared.pool.answer.Refusal.TheVariants.{Memory, NoWorker}
 use Rattle.blocking_pool.specs.declared.pool.answer.Woke.TheVariants.{Marked}
-use Rattle.blocking_pool.specs.declared.pool.standing.Standing.TheVariants.{Queued, Parked, Done, Dropped}
+use Rattle.blocking_pool.specs.declared.pool.standing.Standing.TheVariants.{Queued, Parked, Done}
+use Rattle.blocking_pool.specs.declared.pool.standing.Standing.TheVariants.{Dropped}
 use Rattle.blocking_world_laws.specs.Seen.{EachMayFollow, events, task_cut}
 use Rattle.blocking_world_laws.specs.TaskLaws.{TaskLaw}
 use Rattle.blocking_world_laws.specs.Legal.{PoolLaw}
 use Rattle.blocking_world_laws.specs.declared.event.Act.{Act}
-use Rattle.blocking_world_laws.specs.declared.event.Act.TheVariants.{Accepted, Refused, JobWoken, LimitSet, ClientLimitSet, Swept, Stopped, Waits, TaskGot, TaskCancelled, TaskDetached, HolderDropped, Arrived, Took, TookDropped, Ended, Answered, JobParked, Finished, GaveUp, NoAction}
+use Rattle.blocking_world_laws.specs.declared.event.Act.TheVariants.{Accepted, Refused, JobWoken}
+use Rattle.blocking_world_laws.specs.declared.event.Act.TheVariants.{LimitSet, ClientLimitSet}
+use Rattle.blocking_world_laws.specs.declared.event.Act.TheVariants.{Swept, Stopped, Waits, TaskGot}
+use Rattle.blocking_world_laws.specs.declared.event.Act.TheVariants.{TaskCancelled, TaskDetached}
+use Rattle.blocking_world_laws.specs.declared.event.Act.TheVariants.{HolderDropped, Arrived, Took}
+use Rattle.blocking_world_laws.specs.declared.event.Act.TheVariants.{TookDropped, Ended, Answered}
+use Rattle.blocking_world_laws.specs.declared.event.Act.TheVariants.{JobParked, Finished, GaveUp}
+use Rattle.blocking_world_laws.specs.declared.event.Act.TheVariants.{NoAction}
 use Rattle.blocking_world_laws.specs.declared.event.Moment.{Moment}
 use Rattle.blocking_world_laws.specs.declared.event.Party.{Party}
 use Rattle.blocking_world_laws.specs.declared.event.Party.TheVariants.{Task, Worker, Pool}
@@ -16,7 +24,9 @@ use Rattle.blocking_world_laws.specs.declared.event.HolderWaker.TheVariants.{Tak
 use Rattle.blocking_world_laws.specs.declared.event.WaitEnd.TheVariants.{TimedOut}
 use Rattle.blocking_world_laws.specs.declared.step.Answer.TheVariants.{Number}
 use Rattle.blocking_world_laws.specs.declared.step.Step.{Step}
-use Rattle.blocking_world_laws.specs.declared.step.Step.TheVariants.{Spawn, OfTask, Arrive, Take, Job, Io, End, Late, SetLimit, Sweep, Stray, SetClientLimit}
+use Rattle.blocking_world_laws.specs.declared.step.Step.TheVariants.{Spawn, OfTask, Arrive, Take}
+use Rattle.blocking_world_laws.specs.declared.step.Step.TheVariants.{Job, Io, End, Late, SetLimit}
+use Rattle.blocking_world_laws.specs.declared.step.Step.TheVariants.{Sweep, Stray, SetClientLimit}
 use Rattle.blocking_world_laws.specs.declared.step.TaskCall.TheVariants.{Poll, Cancel, Detach, Drop}
 
 -- ---- how they are written
@@ -26,10 +36,22 @@ infixl 5 ◌▸◌
 abbrev pub ◌▸◌ : List Moment → Moment → List Moment
 past ▸ now = now ∷ past
 
--- a moment with no start: the step, who took it, of which job it is, what was done, and the number of the next start
+-- a moment with no start: the step, who took it, of which job it is, what was done, and the number
+-- of the next start
 abbrev pub moment : Step → Party → Option ℕ → Act → ℕ → Moment
 moment step party job act next =
-    record { step = step; event = record { party = party; owner = None; job = job; act = act; first = next; started = 0; start_refused = false } }
+    record {
+      step = step;
+      event = record {
+        party = party;
+        owner = None;
+        job = job;
+        act = act;
+        first = next;
+        started = 0;
+        start_refused = false;
+      };
+    }
 
 -- the same with so many starts
 abbrev pub starting : ℕ → Moment → Moment
@@ -249,7 +271,8 @@ dropped_waits = dropped_running ▸ moment (Job 1) (Worker 1) (Some 1) JobParked
 abbrev pub dropped_parked : List Moment
 dropped_parked = one_parked ▸ moment (OfTask 0 Drop) (Task 0) None HolderDropped 2
 
--- accepted 1 +1 / arrived 1 / accepted 2 / took 1 / parked / ended 1 parked / took 2 / parked / ended 2 parked
+-- accepted 1 +1 / arrived 1 / accepted 2 / took 1 / parked / ended 1 parked / took 2 / parked /
+-- ended 2 parked
 abbrev pub two_parked : List Moment
 two_parked = two_queued
     ▸ moment (Take 1) (Worker 1) (Some 1) (Took 1) 2
@@ -273,7 +296,8 @@ queued_again = one_taken
     ▸ moment (Job 1) (Worker 1) (Some 1) JobParked 2
     ▸ moment (End 1) (Worker 1) (Some 1) (Ended 1 Queued) 2
 
--- accepted 1 +1 / arrived 1 / took 1 / accepted 2 .. accepted 6 / limit 2 / delivered 1 marked / parked, at limit 1 until then
+-- accepted 1 +1 / arrived 1 / took 1 / accepted 2 .. accepted 6 / limit 2 / delivered 1 marked /
+-- parked, at limit 1 until then
 abbrev pub raised_limit : List Moment
 raised_limit = one_taken
     ▸ moment (Spawn 0) Pool None (Accepted 2) 2
@@ -291,7 +315,8 @@ raised_limit = one_taken
 abbrev pub clients_limited : List Moment
 clients_limited = [] ▸ moment (SetClientLimit (Some 1)) Pool None (ClientLimitSet (Some 1)) 1
 
--- clients 1 / accepted 1 +1 / accepted 2 / accepted 3 / arrived 1: jobs 1 and 2 are of client 7, job 3 of client 8
+-- clients 1 / accepted 1 +1 / accepted 2 / accepted 3 / arrived 1: jobs 1 and 2 are of client 7,
+-- job 3 of client 8
 abbrev pub three_queued : List Moment
 three_queued = clients_limited
     ▸ starting 1 (moment (Spawn 7) Pool None (Accepted 1) 1)

@@ -1,10 +1,13 @@
 -- Turns: which worker has which job in hand, and what the job may do there.
-use Rattle.std.specs.Prelude.{◌≡◌, ℕ, ◌==◌, ◌&&◌, not, if◌then◌else◌, Bool, true, false, List, [], ◌∷◌, Option, Some, None}
+use Rattle.std.specs.Prelude.{◌≡◌, ℕ, ◌==◌, ◌&&◌, not, if◌then◌else◌, Bool, true, false, List, []}
+use Rattle.std.specs.Prelude.{◌∷◌, Option, Some, None}
 use Rattle.blocking_pool.specs.Lists.{is_in}
 use Rattle.blocking_world_laws.specs.Seen.{is_worker, is_of_job, is_of_pool}
 use Rattle.blocking_world_laws.specs.Queue.{running}
 use Rattle.blocking_world_laws.specs.declared.event.Act.{Act}
-use Rattle.blocking_world_laws.specs.declared.event.Act.TheVariants.{Took, TookDropped, Ended, HandedOut, JobParked, GaveUp, HolderWoken}
+use Rattle.blocking_world_laws.specs.declared.event.Act.TheVariants.{Took, TookDropped, Ended}
+use Rattle.blocking_world_laws.specs.declared.event.Act.TheVariants.{HandedOut, JobParked, GaveUp}
+use Rattle.blocking_world_laws.specs.declared.event.Act.TheVariants.{HolderWoken}
 use Rattle.blocking_world_laws.specs.declared.event.Event.{Event}
 use Rattle.blocking_world_laws.specs.declared.event.Moment.{Moment}
 use Rattle.blocking_world_laws.specs.declared.event.Party.{Party}
@@ -48,8 +51,8 @@ abbrev pub hand_of : List Moment → Party → Option ℕ
 hand_of past (Worker w) = hand past w
 hand_of past _ = None
 
--- One worker at a time runs a job, and a worker one job: a take finds the worker's hand empty and the job not running, and
--- the end of a turn finds the job in that hand.
+-- One worker at a time runs a job, and a worker one job: a take finds the worker's hand empty and
+-- the job not running, and the end of a turn finds the job in that hand.
 abbrev pub HoldsOne : List Moment → Event → Act → Type 0
 HoldsOne past now (Took s) = (hand_of past now.party ≡ None) × (is_in s (running past) ≡ false)
 HoldsOne past now (TookDropped s) = (hand_of past now.party ≡ None) × (is_in s (running past) ≡ false)
@@ -62,8 +65,9 @@ abbrev pub is_giving_up : Act → Bool
 is_giving_up (GaveUp waker) = true
 is_giving_up _ = false
 
--- What a job may do by where it is in its turn: while it goes on it doesn't give up; while it waits it does nothing; one
--- that has to give up does that; and then it calls the waker that it took, no more.
+-- What a job may do by where it is in its turn: while it goes on it doesn't give up; while it waits
+-- it does nothing; one that has to give up does that; and then it calls the waker that it took, no
+-- more.
 abbrev pub FitsTurn : Turn → Act → Type 0
 FitsTurn GoesOn act = is_giving_up act ≡ false
 FitsTurn IsWaiting act = ⊥

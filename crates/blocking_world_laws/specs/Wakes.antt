@@ -14,7 +14,8 @@ abbrev pub is_waiting : List Act → Bool
 is_waiting (Waits ∷ past) = true
 is_waiting _ = false
 
--- whether the holder's waker was taken out of its seat since its own last act: the wake was delivered, or is under way
+-- whether the holder's waker was taken out of its seat since its own last act: the wake was
+-- delivered, or is under way
 abbrev pub was_woken : List Event → Bool
 was_woken [] = false
 was_woken (now ∷ cut) = is_some_worker now.party && (takes_waker now.act || was_woken cut)

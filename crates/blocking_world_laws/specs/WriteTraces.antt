@@ -1,11 +1,17 @@
--- Short traces with owners that write, for the theorems that show what their laws accept and refuse. They are written as those of
--- `OwnerTraces`.
+-- Short traces with owners that write, for the theorems that show what their laws accept and
+-- refuse. They are written as those of `OwnerTraces`.
 use Rattle.std.specs.Prelude.{List, [], ◌∷◌, Some, None}
 use Rattle.blocking_pool.specs.declared.pool.answer.Woke.TheVariants.{Entered}
 use Rattle.blocking_pool.specs.declared.pool.standing.Standing.TheVariants.{Parked, Done}
 use Rattle.blocking_world_laws.specs.Traces.{◌▸◌, moment, starting}
 use Rattle.blocking_world_laws.specs.OwnerTraces.{asks, polls, takes, works, given, ends}
-use Rattle.blocking_world_laws.specs.declared.event.Act.TheVariants.{Made, Accepted, OwnerClosed, JobWoken, Filled, Back, Replied, Waits, Arrived, Took, Ended, JobParked, Peeked, Drained, Taken as TakenOut, JobClosed, Finished, HolderWoken}
+use Rattle.blocking_world_laws.specs.declared.event.Act.TheVariants.{Made, Accepted, OwnerClosed}
+use Rattle.blocking_world_laws.specs.declared.event.Act.TheVariants.{JobWoken, Filled, Back}
+use Rattle.blocking_world_laws.specs.declared.event.Act.TheVariants.{Replied, Waits, Arrived, Took}
+use Rattle.blocking_world_laws.specs.declared.event.Act.TheVariants.{Ended, JobParked, Peeked}
+use Rattle.blocking_world_laws.specs.declared.event.Act.TheVariants.{Drained, Taken as TakenOut}
+use Rattle.blocking_world_laws.specs.declared.event.Act.TheVariants.{JobClosed, Finished}
+use Rattle.blocking_world_laws.specs.declared.event.Act.TheVariants.{HolderWoken}
 use Rattle.blocking_world_laws.specs.declared.event.HolderWaker.TheVariants.{Taken, Absent}
 use Rattle.blocking_world_laws.specs.declared.event.Moment.{Moment}
 use Rattle.blocking_world_laws.specs.declared.event.Party.TheVariants.{Owner, Worker}
@@ -38,7 +44,8 @@ last_asked = two_filled ▸ polls (Replied (Count 2)) 2 ▸ asks (Write (122 ∷
 
 -- .. / asked / waits / arrived 1 / took 1
 abbrev pub writer_taken : List Moment
-writer_taken = last_asked ▸ polls Waits 2 ▸ moment Arrive (Worker 1) None (Arrived 1) 2 ▸ takes 1 (Took 1)
+writer_taken =
+    last_asked ▸ polls Waits 2 ▸ moment Arrive (Worker 1) None (Arrived 1) 2 ▸ takes 1 (Took 1)
 
 -- .. / took 1 / peeked 2
 abbrev pub two_peeked : List Moment
@@ -115,7 +122,8 @@ all_flushed = flush_back ▸ polls (Replied Okay) 2
 abbrev pub writer_closed : List Moment
 writer_closed = all_flushed ▸ asks Close 2 ▸ polls (Replied Okay) 2
 
--- .. / drained / answered fault 9 / closed / finished wake owner / delivered owner / ended 1 done / asked (to close) / back
+-- .. / drained / answered fault 9 / closed / finished wake owner / delivered owner / ended 1 done /
+-- asked (to close) / back
 abbrev pub unflushed_back : List Moment
 unflushed_back = writer_drained
     ▸ given 1 (Failed 9)
@@ -128,7 +136,8 @@ unflushed_back = writer_drained
 
 -- ---- a write of one byte that fails
 
--- made 0 / asked (to write 61) / accepted 1 +1 / put 1 / replied ok 1 / arrived 1 / took 1 / peeked 1
+-- made 0 / asked (to write 61) / accepted 1 +1 / put 1 / replied ok 1 / arrived 1 / took 1 / peeked
+-- 1
 abbrev pub one_peeked : List Moment
 one_peeked = writer_made
     ▸ asks (Write (97 ∷ [])) 1
@@ -141,7 +150,8 @@ one_peeked = writer_made
 
 -- .. / closed / finished / ended 1 done
 abbrev pub then_done : List Moment → List Moment
-then_done past = past ▸ works 1 (JobClosed Absent) ▸ works 1 (Finished Absent) ▸ ends 1 (Ended 1 Done)
+then_done past =
+    past ▸ works 1 (JobClosed Absent) ▸ works 1 (Finished Absent) ▸ ends 1 (Ended 1 Done)
 
 -- .. / closed / finished / ended 1 done / asked (to flush) / closed / back
 abbrev pub then_back : List Moment → List Moment
@@ -161,7 +171,8 @@ both_failed = one_peeked ▸ given 1 (Failed 8) ▸ given 1 (Failed 9)
 
 -- ---- wakes that are forgotten, which the seats refuse
 
--- .. / peeked 2 / answered 1 / taken 1 / peeked 1 / answered 1 / taken 1 / parked: the waiting owner isn't told
+-- .. / peeked 2 / answered 1 / taken 1 / peeked 1 / answered 1 / taken 1 / parked: the waiting
+-- owner isn't told
 abbrev pub untold_writer : List Moment
 untold_writer = one_answered
     ▸ works 1 (TakenOut 1 Absent)
@@ -170,7 +181,8 @@ untold_writer = one_answered
     ▸ works 1 (TakenOut 1 Absent)
     ▸ works 1 JobParked
 
--- .. / ended 1 parked / asked (to write 78797a) / put 2 / replied ok 2 / asked: the parked job isn't told
+-- .. / ended 1 parked / asked (to write 78797a) / put 2 / replied ok 2 / asked: the parked job
+-- isn't told
 abbrev pub untold_write_job : List Moment
 untold_write_job = writer_parked
     ▸ asks (Write (120 ∷ 121 ∷ 122 ∷ [])) 2

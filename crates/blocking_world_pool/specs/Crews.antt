@@ -1,5 +1,8 @@
--- The parts of a crew as contracts see them: the pool and the hands, and what each small step does to a hand.
-use Rattle.std.specs.Prelude.{◌≡◌, ◌+◌, ◌-◌, ◌==◌, ℕ, Bool, true, false, if◌then◌else◌, List, [], ◌∷◌, ◌++◌, length, ◌<◌, slice_get, slice_set, refl, Option, Some, None}
+-- The parts of a crew as contracts see them: the pool and the hands, and what each small step does
+-- to a hand.
+use Rattle.std.specs.Prelude.{◌≡◌, ◌+◌, ◌-◌, ◌==◌, ℕ, Bool, true, false, if◌then◌else◌, List, []}
+use Rattle.std.specs.Prelude.{◌∷◌, ◌++◌, length, ◌<◌, slice_get, slice_set, refl, Option, Some}
+use Rattle.std.specs.Prelude.{None}
 use Rattle.std.specs.Coded.{Coded, code_by, coded×, coded_list}
 use Rattle.blocking_pool.specs.Counts.{after_arrival}
 use Rattle.blocking_pool.specs.Jobs.{is_running_as}
@@ -7,7 +10,11 @@ use Rattle.blocking_pool.specs.declared.pool.standing.Standing.{Standing}
 use Rattle.blocking_pool.specs.declared.pool.standing.Standing.TheVariants as standing
 use Rattle.blocking_pool.specs.declared.pool.token.WorkerPass.{WorkerPass}
 use Rattle.blocking_world_laws.specs.declared.event.Act.{Act}
-use Rattle.blocking_world_laws.specs.declared.event.Act.TheVariants.{Answered, RoomFree, RoomShut, JobParked, Put, Lost, Peeked, Drained, Taken as TakenOut, JobClosed, ResultPut, Finished, GaveUp as GivesUp, HolderWoken}
+use Rattle.blocking_world_laws.specs.declared.event.Act.TheVariants.{Answered, RoomFree, RoomShut}
+use Rattle.blocking_world_laws.specs.declared.event.Act.TheVariants.{JobParked, Put, Lost, Peeked}
+use Rattle.blocking_world_laws.specs.declared.event.Act.TheVariants.{Drained, Taken as TakenOut}
+use Rattle.blocking_world_laws.specs.declared.event.Act.TheVariants.{JobClosed, ResultPut, Finished}
+use Rattle.blocking_world_laws.specs.declared.event.Act.TheVariants.{GaveUp as GivesUp, HolderWoken}
 use Rattle.blocking_world_laws.specs.declared.event.HolderWaker.TheVariants.{Taken, Absent}
 use Rattle.blocking_world_pool.specs.Tickets.{JobPool, job_pool_code, AreValued}
 use Rattle.blocking_world_pool.specs.contracts.hand.Hand.{the_row as hands}
@@ -15,7 +22,8 @@ use Rattle.blocking_world_pool.specs.declared.hand.Hand.{Hand}
 use Rattle.blocking_world_pool.specs.declared.hand.Hand.TheVariants.{Out, Free, Holds}
 use Rattle.blocking_world_pool.specs.declared.hand.Held.{Held}
 use Rattle.blocking_world_pool.specs.declared.hand.Stage.{Stage}
-use Rattle.blocking_world_pool.specs.declared.hand.Stage.TheVariants.{Runs, Waits, MustGiveUp, MustWake, GaveUp}
+use Rattle.blocking_world_pool.specs.declared.hand.Stage.TheVariants.{Runs, Waits, MustGiveUp}
+use Rattle.blocking_world_pool.specs.declared.hand.Stage.TheVariants.{MustWake, GaveUp}
 use Rattle.blocking_world_pool.specs.declared.crew.InHand.{InHand}
 use Rattle.blocking_world_pool.specs.declared.tickets.Outcome.{Outcome}
 use Rattle.blocking_world_pool.specs.declared.tickets.Outcome.TheVariants as outcome
@@ -26,12 +34,14 @@ pub record Crew : Type 0 where
   pub hands : List Hand
 
 abbrev pub crew_code : Coded Crew
-crew_code = code_by (JobPool × List Hand) (coded× job_pool_code (coded_list hands.coded)) (λ c. (c.pool, c.hands)) (λ parts. record { pool = parts.0; hands = parts.1 }) (λ _. refl)
+crew_code = code_by (JobPool × List Hand) (coded× job_pool_code (coded_list hands.coded))
+    (λ c. (c.pool, c.hands)) (λ parts. record { pool = parts.0; hands = parts.1 }) (λ _. refl)
 
 -- ---- one job in hand
 
--- Whether a job may act so, where it is in its turn: while it runs it doesn't give up; while it waits it does nothing; one that has to
--- give up does that; and then it calls the waker that it took, no more.
+-- Whether a job may act so, where it is in its turn: while it runs it doesn't give up; while it
+-- waits it does nothing; one that has to give up does that; and then it calls the waker that it
+-- took, no more.
 abbrev pub may_act : Stage → Act → Bool
 may_act Runs (Answered answer) = true
 may_act Runs (RoomFree n) = true
@@ -147,11 +157,13 @@ abbrev pub in_hand_of : Hand → Option InHand
 in_hand_of (Holds held) = Some (record { number = held.turn; stage = held.stage })
 in_hand_of _ = None
 
--- A worker that was started arrives, with its pass in hand, and is the next one; no worker, where none is left to arrive.
+-- A worker that was started arrives, with its pass in hand, and is the next one; no worker, where
+-- none is left to arrive.
 abbrev pub Joins : JobPool → List Hand → Option ℕ → JobPool → List Hand → Type 0
 Joins pool hands None pool' hands' = (pool.counts.arriving ≡ 0) × (pool' ≡ pool) × (hands' ≡ hands)
 Joins pool hands (Some worker) pool' hands' =
-    (0 < pool.counts.arriving) × (worker ≡ length hands + 1) × (pool' ≡ record pool { counts = after_arrival pool.counts })
+    (0 < pool.counts.arriving) × (worker ≡ length hands + 1)
+    × (pool' ≡ record pool { counts = after_arrival pool.counts })
     × ((pass : WorkerPass) × (hands' ≡ hands ++ Free pass ∷ []))
 
 -- ---- what every crew keeps, so that each call may be made
@@ -177,12 +189,14 @@ one_if_busy _ = 0
 abbrev pub busy_hands : List Hand → ℕ
 busy_hands hands = sum_of one_if_busy hands
 
--- The idle workers are those that haven't arrived and those with a free hand; what is in a hand runs, and is in no other; each job that
--- doesn't run has its ticket in the pool.
+-- The idle workers are those that haven't arrived and those with a free hand; what is in a hand
+-- runs, and is in no other; each job that doesn't run has its ticket in the pool.
 pub record IsReady (crew : Crew) : Type 0 where
   pub idle : crew.pool.counts.idle ≡ crew.pool.counts.arriving + free_hands crew.hands
-  pub runs : (v : ℕ) (held : Held) → hand_at crew.hands v ≡ Holds held → is_running_as crew.pool.jobs held.turn ≡ true
+  pub runs : (v : ℕ) (held : Held) → hand_at crew.hands v ≡ Holds held
+      → is_running_as crew.pool.jobs held.turn ≡ true
   pub apart :
-      (v w : ℕ) (one other : Held) → hand_at crew.hands v ≡ Holds one → hand_at crew.hands w ≡ Holds other
+      (v w : ℕ) (one other : Held) → hand_at crew.hands v ≡ Holds one
+      → hand_at crew.hands w ≡ Holds other
       → one.turn.serial ≡ other.turn.serial → v ≡ w
   pub valued : AreValued crew.pool.jobs

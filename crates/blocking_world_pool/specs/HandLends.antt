@@ -9,4 +9,5 @@ use Rattle.blocking_world_pool.specs.declared.hand.Hand.{Hand}
 -- a hand ends as it is left; where the worker isn't there, the hands are as before
 abbrev pub lends_hand : MutBor (List Hand) → ℕ → Option (MutBor Hand) → Fml
 lends_hand hands worker hand =
-    LendsSo the_row hand_row hands hand (λ last left. OnSome hand (last ≡ with_hand hands.now worker left)) (λ last. last ≡ hands.now)
+    LendsSo the_row hand_row hands hand (λ last left.
+    OnSome hand (last ≡ with_hand hands.now worker left)) (λ last. last ≡ hands.now)

@@ -1,5 +1,7 @@
--- The moves of a crew: each call of it is one of them, and each is seen as one event. A move bears what its event doesn't tell.
-use Rattle.std.specs.Prelude.{◌≡◌, ◌<◌, ◌+◌, ◌==◌, nat_lt, not, ℕ, Bool, true, false, [], ◌∷◌, ◌++◌, length, Option, Some, None, Result, Ok, Err, is_some, IfSome}
+-- The moves of a crew: each call of it is one of them, and each is seen as one event. A move bears
+-- what its event doesn't tell.
+use Rattle.std.specs.Prelude.{◌≡◌, ◌<◌, ◌+◌, ◌==◌, nat_lt, not, ℕ, Bool, true, false, [], ◌∷◌, ◌++◌}
+use Rattle.std.specs.Prelude.{length, Option, Some, None, Result, Ok, Err, is_some, IfSome}
 use Rattle.blocking_pool.specs.Counts.{after_arrival, after_limit}
 use Rattle.blocking_pool.specs.Growth.{Growth}
 use Rattle.blocking_pool.specs.Jobs.{JobNumber}
@@ -17,13 +19,28 @@ use Rattle.blocking_world_laws.specs.Jobs.{lets_go}
 use Rattle.blocking_world_laws.specs.Seen.{has_timed_out}
 use Rattle.blocking_world_laws.specs.Steps.{may_limit}
 use Rattle.blocking_world_laws.specs.declared.event.Act.{Act}
-use Rattle.blocking_world_laws.specs.declared.event.Act.TheVariants.{Made, Asked, OwnerClosed, Got, GotItem, GotEnd, Filled, FillShut, Back, ResultGot, Replied, Accepted, Refused, JobWoken, JobCancelled, LimitSet, ClientLimitSet, Swept, Waits, TaskGot, TaskGotNone, TaskDetached, Arrived, Took, TookDropped, TookNone, Ended, HandedOut, Linked, Copied, CopyFailed, NoAction}
+use Rattle.blocking_world_laws.specs.declared.event.Act.TheVariants.{Made, Asked, OwnerClosed, Got}
+use Rattle.blocking_world_laws.specs.declared.event.Act.TheVariants.{GotItem, GotEnd, Filled}
+use Rattle.blocking_world_laws.specs.declared.event.Act.TheVariants.{FillShut, Back, ResultGot}
+use Rattle.blocking_world_laws.specs.declared.event.Act.TheVariants.{Replied, Accepted, Refused}
+use Rattle.blocking_world_laws.specs.declared.event.Act.TheVariants.{JobWoken, JobCancelled}
+use Rattle.blocking_world_laws.specs.declared.event.Act.TheVariants.{LimitSet, ClientLimitSet}
+use Rattle.blocking_world_laws.specs.declared.event.Act.TheVariants.{Swept, Waits, TaskGot}
+use Rattle.blocking_world_laws.specs.declared.event.Act.TheVariants.{TaskGotNone, TaskDetached}
+use Rattle.blocking_world_laws.specs.declared.event.Act.TheVariants.{Arrived, Took, TookDropped}
+use Rattle.blocking_world_laws.specs.declared.event.Act.TheVariants.{TookNone, Ended, HandedOut}
+use Rattle.blocking_world_laws.specs.declared.event.Act.TheVariants.{Linked, Copied, CopyFailed}
+use Rattle.blocking_world_laws.specs.declared.event.Act.TheVariants.{NoAction}
 use Rattle.blocking_world_laws.specs.declared.event.Event.{Event}
 use Rattle.blocking_world_laws.specs.declared.event.Party.{Party}
 use Rattle.blocking_world_laws.specs.declared.event.Party.TheVariants.{Worker, Pool}
 use Rattle.blocking_world_laws.specs.declared.event.WaitEnd.{WaitEnd}
-use Rattle.blocking_world_pool.specs.Crews.{Crew, hand_at, with_hand, is_free_hand, over_in, waiting_in, acting_in, may_end, may_act, held_after_act, outcome_of, standing_after}
-use Rattle.blocking_world_pool.specs.Tickets.{JobPool, no_growth, AddsTo, TakesFront, Wakes, Cancels, SweepsTo, to_sweep, WaitsSo, ParksSo, pool_after_let_go, with_client_limit}
+use Rattle.blocking_world_pool.specs.Crews.{Crew, hand_at, with_hand, is_free_hand, over_in}
+use Rattle.blocking_world_pool.specs.Crews.{waiting_in, acting_in, may_end, may_act, held_after_act}
+use Rattle.blocking_world_pool.specs.Crews.{outcome_of, standing_after}
+use Rattle.blocking_world_pool.specs.Tickets.{JobPool, no_growth, AddsTo, TakesFront, Wakes}
+use Rattle.blocking_world_pool.specs.Tickets.{Cancels, SweepsTo, to_sweep, WaitsSo, ParksSo}
+use Rattle.blocking_world_pool.specs.Tickets.{pool_after_let_go, with_client_limit}
 use Rattle.blocking_world_pool.specs.declared.hand.Hand.{Hand}
 use Rattle.blocking_world_pool.specs.declared.hand.Hand.TheVariants.{Out, Free, Holds}
 use Rattle.blocking_world_pool.specs.declared.hand.Held.{Held}
@@ -128,7 +145,15 @@ next_start crew = crew.pool.counts.next_worker
 -- What is seen where something was done. Whose owner's job it is, the layer above knows.
 abbrev pub seen : Party → Option ℕ → Act → ℕ → Growth → Event
 seen who job act first growth =
-    record { party = who; owner = None; job = job; act = act; first = first; started = growth.started; start_refused = growth.refused }
+    record {
+      party = who;
+      owner = None;
+      job = job;
+      act = act;
+      first = first;
+      started = growth.started;
+      start_refused = growth.refused;
+    }
 
 -- what is seen where nothing was done
 abbrev pub nothing : Party → ℕ → Event
@@ -178,19 +203,30 @@ parked_act (parking.HandedOut turn) s = HandedOut s
 -- the event of a move
 abbrev pub event_of : Crew → Move → Event
 event_of crew (Idles call) = nothing (named call) (next_start crew)
-event_of crew (Adds party client added growth pool) = seen party None (added_act added) (next_start crew) growth
-event_of crew (Arrives pass) = seen (Worker (length crew.hands + 1)) None (Arrived (length crew.hands + 1)) (next_start crew) no_growth
-event_of crew (TakesJob v old to_drop turn ticket growth pool) = seen (Worker v) (Some turn.serial) (took_act to_drop turn.serial) (next_start crew) growth
+event_of crew (Adds party client added growth pool) =
+    seen party None (added_act added) (next_start crew) growth
+event_of crew (Arrives pass) = seen (Worker (length crew.hands + 1)) None
+    (Arrived (length crew.hands + 1)) (next_start crew) no_growth
+event_of crew (TakesJob v old to_drop turn ticket growth pool) =
+    seen (Worker v) (Some turn.serial) (took_act to_drop turn.serial) (next_start crew) growth
 event_of crew (TakesNone v old pass) = seen (Worker v) None TookNone (next_start crew) no_growth
-event_of crew (Works v held act) = seen (Worker v) (Some held.turn.serial) act (next_start crew) no_growth
-event_of crew (EndsTurn v held pass) = seen (Worker v) (Some held.turn.serial) (Ended held.turn.serial (standing_after (outcome_of held.stage))) (next_start crew) no_growth
-event_of crew (Parks v held ticket parked pool) = seen (Worker v) (Some held.turn.serial) (parked_act parked held.turn.serial) (next_start crew) no_growth
-event_of crew (HasWaited v pass end waited growth pool) = seen (Worker v) None (wait_act v end (is_stop waited)) (next_start crew) growth
+event_of crew (Works v held act) =
+    seen (Worker v) (Some held.turn.serial) act (next_start crew) no_growth
+event_of crew (EndsTurn v held pass) = seen (Worker v) (Some held.turn.serial)
+    (Ended held.turn.serial (standing_after (outcome_of held.stage))) (next_start crew) no_growth
+event_of crew (Parks v held ticket parked pool) = seen (Worker v) (Some held.turn.serial)
+    (parked_act parked held.turn.serial) (next_start crew) no_growth
+event_of crew (HasWaited v pass end waited growth pool) =
+    seen (Worker v) None (wait_act v end (is_stop waited)) (next_start crew) growth
 event_of crew (SetsLimit n) = seen Pool None (LimitSet n) (next_start crew) no_growth
-event_of crew (SetsClientLimit limit) = seen Pool None (ClientLimitSet limit) (next_start crew) no_growth
-event_of crew (Sweeps growth pool) = seen Pool None (Swept (length (to_sweep crew.pool))) (next_start crew) growth
-event_of crew (IsWoken party number woke growth pool) = seen party None (JobWoken number.serial woke) (next_start crew) growth
-event_of crew (IsCancelled party number woke growth pool) = seen party None (JobCancelled number.serial woke) (next_start crew) growth
+event_of crew (SetsClientLimit limit) =
+    seen Pool None (ClientLimitSet limit) (next_start crew) no_growth
+event_of crew (Sweeps growth pool) =
+    seen Pool None (Swept (length (to_sweep crew.pool))) (next_start crew) growth
+event_of crew (IsWoken party number woke growth pool) =
+    seen party None (JobWoken number.serial woke) (next_start crew) growth
+event_of crew (IsCancelled party number woke growth pool) =
+    seen party None (JobCancelled number.serial woke) (next_start crew) growth
 event_of crew (IsLetGo party act number) = seen party None act (next_start crew) no_growth
 event_of crew (Tells party act) = seen party None act (next_start crew) no_growth
 
@@ -207,7 +243,8 @@ hand_after_take (Run turn ticket) = Holds (record { turn = turn; stage = first_s
 hand_after_take (Drop turn ticket) = Holds (record { turn = turn; stage = first_stage true })
 hand_after_take (Idle pass) = Free pass
 
--- the hand after a run ended waiting: a job that was handed out goes on in its turn, and has to give up
+-- the hand after a run ended waiting: a job that was handed out goes on in its turn, and has to
+-- give up
 abbrev pub hand_after_park : Parking → Hand
 hand_after_park (parking.Parked pass) = Free pass
 hand_after_park (parking.Queued pass) = Free pass
@@ -222,14 +259,28 @@ hand_after_wait Stop = Out
 abbrev pub after : Crew → Move → Crew
 after crew (Idles call) = crew
 after crew (Adds party client added growth pool) = record crew { pool = pool }
-after crew (Arrives pass) = record { pool = record crew.pool { counts = after_arrival crew.pool.counts }; hands = crew.hands ++ Free pass ∷ [] }
-after crew (TakesJob v old to_drop turn ticket growth pool) = record { pool = pool; hands = with_hand crew.hands v (Holds (record { turn = turn; stage = first_stage to_drop })) }
+after crew (Arrives pass) =
+    record {
+      pool = record crew.pool { counts = after_arrival crew.pool.counts };
+      hands = crew.hands ++ Free pass ∷ [];
+    }
+after crew (TakesJob v old to_drop turn ticket growth pool) = record {
+  pool = pool;
+  hands = with_hand crew.hands v (Holds (record { turn = turn; stage = first_stage to_drop }));
+}
 after crew (TakesNone v old pass) = record crew { hands = with_hand crew.hands v (Free pass) }
-after crew (Works v held act) = record crew { hands = with_hand crew.hands v (Holds (held_after_act held act)) }
-after crew (EndsTurn v held pass) = record { pool = without_job crew.pool held.turn.serial; hands = with_hand crew.hands v (Free pass) }
-after crew (Parks v held ticket parked pool) = record { pool = pool; hands = with_hand crew.hands v (hand_after_park parked) }
-after crew (HasWaited v pass end waited growth pool) = record { pool = pool; hands = with_hand crew.hands v (hand_after_wait waited) }
-after crew (SetsLimit n) = record crew { pool = record crew.pool { counts = after_limit n crew.pool.counts } }
+after crew (Works v held act) =
+    record crew { hands = with_hand crew.hands v (Holds (held_after_act held act)) }
+after crew (EndsTurn v held pass) = record {
+  pool = without_job crew.pool held.turn.serial;
+  hands = with_hand crew.hands v (Free pass);
+}
+after crew (Parks v held ticket parked pool) =
+    record { pool = pool; hands = with_hand crew.hands v (hand_after_park parked) }
+after crew (HasWaited v pass end waited growth pool) =
+    record { pool = pool; hands = with_hand crew.hands v (hand_after_wait waited) }
+after crew (SetsLimit n) =
+    record crew { pool = record crew.pool { counts = after_limit n crew.pool.counts } }
 after crew (SetsClientLimit limit) = record crew { pool = with_client_limit limit crew.pool }
 after crew (Sweeps growth pool) = record crew { pool = pool }
 after crew (IsWoken party number woke growth pool) = record crew { pool = pool }
@@ -276,24 +327,36 @@ is_aside _ = false
 
 abbrev pub May : (ℕ → Bool → Type 0) → Crew → Move → Type 0
 May may_answer crew (Idles call) = has_action crew call ≡ false
-May may_answer crew (Adds party client added growth pool) = AddsTo may_answer crew.pool client added growth pool
+May may_answer crew (Adds party client added growth pool) =
+    AddsTo may_answer crew.pool client added growth pool
 May may_answer crew (Arrives pass) = 0 < crew.pool.counts.arriving
-May may_answer crew (TakesJob v old to_drop turn ticket growth pool) = (hand_at crew.hands v ≡ Free old) × TakesFront may_answer crew.pool turn ticket to_drop growth pool
-May may_answer crew (TakesNone v old pass) = (hand_at crew.hands v ≡ Free old) × (ready crew.pool ≡ [])
-May may_answer crew (Works v held act) = (hand_at crew.hands v ≡ Holds held) × (may_act held.stage act ≡ true)
-May may_answer crew (EndsTurn v held pass) = (hand_at crew.hands v ≡ Holds held) × (may_end held.stage ≡ true)
-May may_answer crew (Parks v held ticket parked pool) = (hand_at crew.hands v ≡ Holds held) × (held.stage ≡ stage.Waits) × ParksSo crew.pool held.turn ticket parked pool
-May may_answer crew (HasWaited v pass end waited growth pool) = (hand_at crew.hands v ≡ Free pass) × WaitsSo may_answer (has_timed_out end) crew.pool waited growth pool
+May may_answer crew (TakesJob v old to_drop turn ticket growth pool) =
+    (hand_at crew.hands v ≡ Free old)
+    × TakesFront may_answer crew.pool turn ticket to_drop growth pool
+May may_answer crew (TakesNone v old pass) =
+    (hand_at crew.hands v ≡ Free old) × (ready crew.pool ≡ [])
+May may_answer crew (Works v held act) =
+    (hand_at crew.hands v ≡ Holds held) × (may_act held.stage act ≡ true)
+May may_answer crew (EndsTurn v held pass) =
+    (hand_at crew.hands v ≡ Holds held) × (may_end held.stage ≡ true)
+May may_answer crew (Parks v held ticket parked pool) = (hand_at crew.hands v ≡ Holds held)
+    × (held.stage ≡ stage.Waits) × ParksSo crew.pool held.turn ticket parked pool
+May may_answer crew (HasWaited v pass end waited growth pool) = (hand_at crew.hands v ≡ Free pass)
+    × WaitsSo may_answer (has_timed_out end) crew.pool waited growth pool
 May may_answer crew (SetsLimit n) = 0 < n
 May may_answer crew (SetsClientLimit limit) = IfSome limit (λ most. 0 < most)
-May may_answer crew (Sweeps growth pool) = SweepsTo may_answer crew.pool (to_sweep crew.pool) growth pool
-May may_answer crew (IsWoken party number woke growth pool) = Wakes may_answer crew.pool number woke growth pool
-May may_answer crew (IsCancelled party number woke growth pool) = Cancels may_answer crew.pool number woke growth pool
+May may_answer crew (Sweeps growth pool) =
+    SweepsTo may_answer crew.pool (to_sweep crew.pool) growth pool
+May may_answer crew (IsWoken party number woke growth pool) =
+    Wakes may_answer crew.pool number woke growth pool
+May may_answer crew (IsCancelled party number woke growth pool) =
+    Cancels may_answer crew.pool number woke growth pool
 May may_answer crew (IsLetGo party act number) = lets_go act ≡ true
 May may_answer crew (Tells party act) = is_aside act ≡ true
 
 -- A call is a move that there may be.
-pub record Moves (may_answer : ℕ → Bool → Type 0) (call : Call) (crew : Crew) (e : Event) (crew' : Crew) : Type 0 where
+pub record Moves (may_answer : ℕ → Bool → Type 0) (call : Call) (crew : Crew) (e : Event)
+    (crew' : Crew) : Type 0 where
   pub move : Move
   pub may : May may_answer crew move
   pub call_is : call ≡ call_of move

@@ -11,23 +11,48 @@ pub use Rattle.blocking_pool.specs.declared.pool.answer.Refusal.{Refusal}
 pub use Rattle.blocking_pool.specs.declared.pool.answer.Waited.{Waited}
 pub use Rattle.blocking_pool.specs.declared.pool.answer.Waited.TheVariants.{Stay, Stop}
 pub use Rattle.blocking_pool.specs.declared.pool.answer.Woke.{Woke}
-pub use Rattle.blocking_pool.specs.declared.pool.answer.Woke.TheVariants.{Entered, Marked as MarkedBy, Nothing}
+pub use Rattle.blocking_pool.specs.declared.pool.answer.Woke.TheVariants.{Entered}
+pub use Rattle.blocking_pool.specs.declared.pool.answer.Woke.TheVariants.{Marked as MarkedBy}
+pub use Rattle.blocking_pool.specs.declared.pool.answer.Woke.TheVariants.{Nothing}
 pub use Rattle.blocking_pool.specs.declared.pool.standing.Standing.{Standing}
-pub use Rattle.blocking_pool.specs.declared.pool.standing.Standing.TheVariants.{Done, Dropped, Parked, Queued, Running}
+pub use Rattle.blocking_pool.specs.declared.pool.standing.Standing.TheVariants.{Done, Dropped}
+pub use Rattle.blocking_pool.specs.declared.pool.standing.Standing.TheVariants.{Parked, Queued}
+pub use Rattle.blocking_pool.specs.declared.pool.standing.Standing.TheVariants.{Running}
 pub use Rattle.blocking_world_laws.specs.declared.event.Act.{Act}
-pub use Rattle.blocking_world_laws.specs.declared.event.Act.TheVariants.{Accepted, Answered, Arrived, Asked, Drained, Ended, Filled, Finished, GaveUp, Got, GotItem, HandedOut, HolderDropped, HolderWoken, JobCancelled, JobClosed, JobParked, JobWoken, Lost, Made, NoAction, OwnerClosed, Peeked, Put, Refused, ResultPut, RoomFree, RoomShut, Stays, Stopped, Swept, Taken as TakenOut, TaskCancelled, Took, TookDropped, Waits}
+pub use Rattle.blocking_world_laws.specs.declared.event.Act.TheVariants.{Accepted, Answered}
+pub use Rattle.blocking_world_laws.specs.declared.event.Act.TheVariants.{Arrived, Asked, Drained}
+pub use Rattle.blocking_world_laws.specs.declared.event.Act.TheVariants.{Ended, Filled, Finished}
+pub use Rattle.blocking_world_laws.specs.declared.event.Act.TheVariants.{GaveUp, Got, GotItem}
+pub use Rattle.blocking_world_laws.specs.declared.event.Act.TheVariants.{HandedOut, HolderDropped}
+pub use Rattle.blocking_world_laws.specs.declared.event.Act.TheVariants.{HolderWoken, JobCancelled}
+pub use Rattle.blocking_world_laws.specs.declared.event.Act.TheVariants.{JobClosed, JobParked}
+pub use Rattle.blocking_world_laws.specs.declared.event.Act.TheVariants.{JobWoken, Lost, Made}
+pub use Rattle.blocking_world_laws.specs.declared.event.Act.TheVariants.{NoAction, OwnerClosed}
+pub use Rattle.blocking_world_laws.specs.declared.event.Act.TheVariants.{Peeked, Put, Refused}
+pub use Rattle.blocking_world_laws.specs.declared.event.Act.TheVariants.{ResultPut, RoomFree}
+pub use Rattle.blocking_world_laws.specs.declared.event.Act.TheVariants.{RoomShut, Stays, Stopped}
+pub use Rattle.blocking_world_laws.specs.declared.event.Act.TheVariants.{Swept, Taken as TakenOut}
+pub use Rattle.blocking_world_laws.specs.declared.event.Act.TheVariants.{TaskCancelled, Took}
+pub use Rattle.blocking_world_laws.specs.declared.event.Act.TheVariants.{TookDropped, Waits}
 pub use Rattle.blocking_world_laws.specs.declared.event.Event.{Event}
 pub use Rattle.blocking_world_laws.specs.declared.event.Moment.{Moment}
 pub use Rattle.blocking_world_laws.specs.declared.event.Party.{Party}
-pub use Rattle.blocking_world_laws.specs.declared.event.Party.TheVariants.{Owner as ByOwner, Pool, Task as ByTask, Worker}
+pub use Rattle.blocking_world_laws.specs.declared.event.Party.TheVariants.{Owner as ByOwner, Pool}
+pub use Rattle.blocking_world_laws.specs.declared.event.Party.TheVariants.{Task as ByTask, Worker}
 pub use Rattle.blocking_world_laws.specs.declared.event.Reply.{Reply}
 pub use Rattle.blocking_world_laws.specs.declared.step.Answer.{Answer}
 pub use Rattle.blocking_world_laws.specs.declared.step.Answer.TheVariants.{Gave, Number}
 pub use Rattle.blocking_world_laws.specs.declared.step.HandleCall.{HandleCall}
 pub use Rattle.blocking_world_laws.specs.declared.step.Step.{Step}
-pub use Rattle.blocking_world_laws.specs.declared.step.Step.TheVariants.{Arrive, Ask, Copy, DropOwner, End, Io, Job, Late, Link, New, OfTask, Own, SetClientLimit, SetLimit, Spawn, Stray, Strike, Sweep, Take, Wait}
+pub use Rattle.blocking_world_laws.specs.declared.step.Step.TheVariants.{Arrive, Ask, Copy}
+pub use Rattle.blocking_world_laws.specs.declared.step.Step.TheVariants.{DropOwner, End, Io, Job}
+pub use Rattle.blocking_world_laws.specs.declared.step.Step.TheVariants.{Late, Link, New, OfTask}
+pub use Rattle.blocking_world_laws.specs.declared.step.Step.TheVariants.{Own, SetClientLimit}
+pub use Rattle.blocking_world_laws.specs.declared.step.Step.TheVariants.{SetLimit, Spawn, Stray}
+pub use Rattle.blocking_world_laws.specs.declared.step.Step.TheVariants.{Strike, Sweep, Take, Wait}
 pub use Rattle.blocking_world_laws.specs.declared.step.TaskCall.{TaskCall}
-pub use Rattle.blocking_world_laws.specs.declared.step.TaskCall.TheVariants.{Cancel, Detach, Drop, Poll}
+pub use Rattle.blocking_world_laws.specs.declared.step.TaskCall.TheVariants.{Cancel, Detach, Drop}
+pub use Rattle.blocking_world_laws.specs.declared.step.TaskCall.TheVariants.{Poll}
 pub use Rattle.blocking_world_pool.specs.declared.hand.Hand.{Hand}
 pub use Rattle.blocking_world_pool.specs.declared.hand.Hand.TheVariants.{Free, Holds, Out}
 pub use Rattle.blocking_world_pool.specs.declared.hand.Held.{Held}

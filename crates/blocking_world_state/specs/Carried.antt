@@ -1,4 +1,5 @@
--- The bytes that an event carries, and how many a step's event may carry at most: so the room for a copy of them is made before it acts.
+-- The bytes that an event carries, and how many a step's event may carry at most: so the room for a
+-- copy of them is made before it acts.
 use Rattle.std.specs.Prelude.{ℕ, Bool, true, false, List, [], length, slice_get, Option, Some, None}
 use Rattle.blocking_world_holders.specs.Owners.{Owner, bytes_in, front_in, next_of}
 use Rattle.blocking_world_holders.specs.declared.owner.OwnerNext.{OwnerNext}
@@ -50,8 +51,8 @@ abbrev pub bytes_to_find : Parts → Option InHand → ℕ
 bytes_to_find w None = 0
 bytes_to_find w (Some job) = front_for w job.row.core
 
--- how many bytes the event of this step carries at most: those that are to be written, those that come out of the pipe, those that a job
--- finds at its front, or those of an answer
+-- how many bytes the event of this step carries at most: those that are to be written, those that
+-- come out of the pipe, those that a job finds at its front, or those of an answer
 abbrev pub bytes_to_come : Parts → Step → ℕ
 bytes_to_come w (Ask h call) = length (bytes_of_call call)
 bytes_to_come w (Job v) = bytes_to_find w (job_at w v)

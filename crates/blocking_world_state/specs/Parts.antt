@@ -1,5 +1,7 @@
--- The parts of a world as contracts see them: the crew, the rows of its jobs, the tasks and the owners, and what is found in them.
-use Rattle.std.specs.Prelude.{ℕ, Bool, false, ◌==◌, ◌-◌, if◌then◌else◌, List, slice_get, refl, Option, Some, None}
+-- The parts of a world as contracts see them: the crew, the rows of its jobs, the tasks and the
+-- owners, and what is found in them.
+use Rattle.std.specs.Prelude.{ℕ, Bool, false, ◌==◌, ◌-◌, if◌then◌else◌, List, slice_get, refl}
+use Rattle.std.specs.Prelude.{Option, Some, None}
 use Rattle.std.specs.Coded.{Coded, code_by, coded×, coded_list}
 use Rattle.blocking_world_pool.specs.Crews.{Crew, crew_code, hand_at}
 use Rattle.blocking_world_pool.specs.declared.hand.Hand.{Hand}
@@ -17,7 +19,8 @@ use Rattle.blocking_world_state.specs.declared.row.Core.{Core}
 use Rattle.blocking_world_state.specs.declared.row.Core.TheVariants as core
 use Rattle.blocking_world_state.specs.declared.row.Row.{Row}
 
--- The parts: the crew, the rows of the jobs from 1 on, the tasks from 0 on, and the owners from 0 on.
+-- The parts: the crew, the rows of the jobs from 1 on, the tasks from 0 on, and the owners from 0
+-- on.
 pub record Parts : Type 0 where
   pub crew : Crew
   pub rows : List Row
@@ -26,8 +29,14 @@ pub record Parts : Type 0 where
 
 abbrev pub parts_code : Coded Parts
 parts_code =
-    code_by (Crew × (List Row × (List Task × List Owner))) (coded× crew_code (coded× (coded_list rows.coded) (coded× (coded_list tasks.coded) (coded_list owners.coded))))
-    (λ w. (w.crew, (w.rows, (w.tasks, w.owners)))) (λ parts. record { crew = parts.0; rows = parts.1.0; tasks = parts.1.1.0; owners = parts.1.1.1 }) (λ _. refl)
+    code_by (Crew × (List Row × (List Task × List Owner))) (coded× crew_code (coded×
+    (coded_list rows.coded) (coded× (coded_list tasks.coded) (coded_list owners.coded))))
+    (λ w. (w.crew, (w.rows, (w.tasks, w.owners)))) (λ parts. record {
+      crew = parts.0;
+      rows = parts.1.0;
+      tasks = parts.1.1.0;
+      owners = parts.1.1.1;
+    }) (λ _. refl)
 
 -- the row of the job of this serial
 abbrev pub row_of : List Row → ℕ → Option Row
@@ -88,7 +97,8 @@ done_in w (Some job) = done_by w job
 
 -- ---- who let a job go
 
--- whether there is such a task, and it has let its job go; and the same of an owner, which lets it go by its drop
+-- whether there is such a task, and it has let its job go; and the same of an owner, which lets it
+-- go by its drop
 abbrev pub task_let_go : Option Task → Bool
 task_let_go None = false
 task_let_go (Some task) = has_let_go task.stage

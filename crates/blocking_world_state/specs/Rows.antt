@@ -1,5 +1,7 @@
--- What a job is for, and what its next action does to its row and to the task or the owner that holds it.
-use Rattle.std.specs.Prelude.{◌≡◌, ℕ, Bool, true, false, List, slice_get, slice_set, Option, Some, None}
+-- What a job is for, and what its next action does to its row and to the task or the owner that
+-- holds it.
+use Rattle.std.specs.Prelude.{◌≡◌, ℕ, Bool, true, false, List, slice_get, slice_set, Option, Some}
+use Rattle.std.specs.Prelude.{None}
 use Rattle.blocking_core.specs.declared.job.Action.{Action}
 use Rattle.blocking_core.specs.declared.job.Action.TheVariants as action
 use Rattle.blocking_world_pool.specs.declared.hand.Stage.{Stage}
@@ -13,12 +15,15 @@ use Rattle.blocking_world_holders.specs.declared.job.SessionJob.{SessionJob}
 use Rattle.blocking_world_holders.specs.Steps as tasks
 use Rattle.blocking_world_holders.specs.Steps.{TaskStep}
 use Rattle.blocking_world_holders.specs.Tasks.{Task, finish_wakes}
-use Rattle.blocking_world_laws.specs.JobTable.{JobAction, Kind, Calling, AskCall, Finish, FindRoom, Peek, WakeHolder, Over, AskItem, SendItem, AskSeek, AskResult}
+use Rattle.blocking_world_laws.specs.JobTable.{JobAction, Kind, Calling, AskCall, Finish, FindRoom}
+use Rattle.blocking_world_laws.specs.JobTable.{Peek, WakeHolder, Over, AskItem, SendItem, AskSeek}
+use Rattle.blocking_world_laws.specs.JobTable.{AskResult}
 use Rattle.blocking_world_laws.specs.Steps.{WorkerAction, Does, GivesUp, EndsTurn, next_in_turn}
 use Rattle.blocking_world_laws.specs.Turns.{GoesOn}
 use Rattle.blocking_world_laws.specs.declared.event.Act.{Act}
 use Rattle.blocking_world_laws.specs.declared.event.Party.{Party}
-use Rattle.blocking_world_laws.specs.declared.event.Party.TheVariants.{Owner as ByOwner, Task as ByTask}
+use Rattle.blocking_world_laws.specs.declared.event.Party.TheVariants.{Owner as ByOwner}
+use Rattle.blocking_world_laws.specs.declared.event.Party.TheVariants.{Task as ByTask}
 use Rattle.blocking_world_laws.specs.declared.step.Answer.{Answer}
 use Rattle.blocking_world_laws.specs.declared.step.Answer.TheVariants.{Number}
 use Rattle.blocking_pool.specs.Jobs.{JobNumber}
@@ -73,7 +78,8 @@ next_of stage.MustGiveUp core = GivesUp
 next_of stage.MustWake core = Does WakeHolder
 next_of stage.GaveUp core = EndsTurn
 
--- whether a job is at an action at which nobody may run it: the first of its kind, or one at which it waits for its owner
+-- whether a job is at an action at which nobody may run it: the first of its kind, or one at which
+-- it waits for its owner
 abbrev pub is_first : JobAction → Bool
 is_first AskCall = true
 is_first FindRoom = true
@@ -141,7 +147,8 @@ pub record Done : Type 0 where
   pub owners : List Owner
 
 -- the act of a call's job, where there is a step and the task is there
-abbrev pub call_done : ℕ → calls.Progress → Stage → List Task → List Owner → Option Task → Option TaskStep → Option Done
+abbrev pub call_done : ℕ → calls.Progress → Stage → List Task → List Owner → Option Task
+    → Option TaskStep → Option Done
 call_done k call at all rows (Some task) (Some step) = Some (record {
   act = tasks.act_of step task;
   core = core.Call k (call_after step at task call);
@@ -151,7 +158,8 @@ call_done k call at all rows (Some task) (Some step) = Some (record {
 call_done k call at all rows _ _ = None
 
 -- the act of a session's job, where its owner is there, and has that to be seen
-abbrev pub session_seen : ℕ → SessionJob → List Task → List Owner → Owner → OwnerStep → Option Act → Option Done
+abbrev pub session_seen : ℕ → SessionJob → List Task → List Owner → Owner → OwnerStep → Option Act
+    → Option Done
 session_seen h job all rows owner step None = None
 session_seen h job all rows owner step (Some act) = Some (record {
   act = act;
@@ -161,20 +169,28 @@ session_seen h job all rows owner step (Some act) = Some (record {
 })
 
 -- what the job of owner h does, where that owner is there and its next action is one of its session
-abbrev pub session_done : ℕ → SessionJob → List Task → List Owner → Option Owner → Option OwnerStep → Option Done
-session_done h job all rows (Some owner) (Some step) = session_seen h job all rows owner step (owners.act_of step owner)
+abbrev pub session_done : ℕ → SessionJob → List Task → List Owner → Option Owner → Option OwnerStep
+    → Option Done
+session_done h job all rows (Some owner) (Some step) =
+    session_seen h job all rows owner step (owners.act_of step owner)
 session_done h job all rows _ _ = None
 
 -- What a job does next that is its own to do.
 abbrev pub done : Stage → Core → List Task → List Owner → Option Done
-done at (core.Call k call) all rows = call_done k call at all rows (slice_get all k) (call_step at call)
-done at (core.Session h job) all rows = session_done h job all rows (slice_get rows h) (session_step at job)
+done at (core.Call k call) all rows =
+    call_done k call at all rows (slice_get all k) (call_step at call)
+done at (core.Session h job) all rows =
+    session_done h job all rows (slice_get rows h) (session_step at job)
 
--- the answer of a call by which a job may act, and what it leaves: where it has no such act nothing changes
-abbrev pub IsDone : Option Done → Core → List Task → List Owner → Option Act → Core → List Task → List Owner → Type 0
-IsDone None core tasks owners seen new_core new_tasks new_owners = (seen ≡ None) × (new_core ≡ core) × (new_tasks ≡ tasks) × (new_owners ≡ owners)
+-- the answer of a call by which a job may act, and what it leaves: where it has no such act nothing
+-- changes
+abbrev pub IsDone : Option Done → Core → List Task → List Owner → Option Act → Core → List Task
+    → List Owner → Type 0
+IsDone None core tasks owners seen new_core new_tasks new_owners =
+    (seen ≡ None) × (new_core ≡ core) × (new_tasks ≡ tasks) × (new_owners ≡ owners)
 IsDone (Some did) core tasks owners seen new_core new_tasks new_owners =
-    (seen ≡ Some did.act) × (new_core ≡ did.core) × (new_tasks ≡ did.tasks) × (new_owners ≡ did.owners)
+    (seen ≡ Some did.act) × (new_core ≡ did.core) × (new_tasks ≡ did.tasks)
+    × (new_owners ≡ did.owners)
 
 -- the core of a job that was answered so
 abbrev pub call_answered : Answer → calls.Progress → calls.Progress
@@ -188,14 +204,21 @@ core_after_answer answer (core.Session h job) = core.Session h (jobs.job_after_a
 
 -- ---- one act, at its task or its owner alone
 
--- what is seen of a call's job and its task, and what both are then, by the step that it takes, if it takes one
-abbrev pub IsActed : Option TaskStep → Stage → calls.Progress → Task → Option Act → calls.Progress → Task → Type 0
-IsActed None at call task seen new_call new_task = (seen ≡ None) × (new_call ≡ call) × (new_task ≡ task)
+-- what is seen of a call's job and its task, and what both are then, by the step that it takes, if
+-- it takes one
+abbrev pub IsActed : Option TaskStep → Stage → calls.Progress → Task → Option Act → calls.Progress
+    → Task → Type 0
+IsActed None at call task seen new_call new_task =
+    (seen ≡ None) × (new_call ≡ call) × (new_task ≡ task)
 IsActed (Some step) at call task seen new_call new_task =
-    (seen ≡ Some (tasks.act_of step task)) × (new_call ≡ call_after step at task call) × (new_task ≡ tasks.task_after step task)
+    (seen ≡ Some (tasks.act_of step task)) × (new_call ≡ call_after step at task call)
+    × (new_task ≡ tasks.task_after step task)
 
 -- the same of a session's job and its owner
-abbrev pub IsActedFor : Option OwnerStep → SessionJob → Owner → Option Act → SessionJob → Owner → Type 0
-IsActedFor None job owner seen new_job new_owner = (seen ≡ None) × (new_job ≡ job) × (new_owner ≡ owner)
+abbrev pub IsActedFor : Option OwnerStep → SessionJob → Owner → Option Act → SessionJob → Owner
+    → Type 0
+IsActedFor None job owner seen new_job new_owner =
+    (seen ≡ None) × (new_job ≡ job) × (new_owner ≡ owner)
 IsActedFor (Some step) job owner seen new_job new_owner =
-    (seen ≡ owners.act_of step owner) × (new_job ≡ job_after step owner job) × (new_owner ≡ owners.owner_after step owner)
+    (seen ≡ owners.act_of step owner) × (new_job ≡ job_after step owner job)
+    × (new_owner ≡ owners.owner_after step owner)

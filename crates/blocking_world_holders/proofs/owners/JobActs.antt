@@ -1,17 +1,70 @@
 -- An act of its job keeps the law of an owner, and the tie of the owner to its cut.
-use Rattle.std.proofs.Common.{◌≡◌, ℕ, suc, zero, ◌==◌, List, [], ◌∷◌, length, Bool, true, false, refl, sym, ap, ◌∙◌, subst, arith, Option, Some, None, ⊎_elim, inl, inr, ◌||◌, ◌⊎◌, ◌++◌, not, drop, is_some, is_none, eq-eqb}
+use Rattle.std.proofs.Common.{◌≡◌, ℕ, suc, zero, ◌==◌, List, [], ◌∷◌, length, Bool, true, false}
+use Rattle.std.proofs.Common.{refl, sym, ap, ◌∙◌, subst, arith, Option, Some, None, ⊎_elim, inl}
+use Rattle.std.proofs.Common.{inr, ◌||◌, ◌⊎◌, ◌++◌, not, drop, is_some, is_none, eq-eqb}
 use Rattle.std.proofs.lemmas.Bool.{or_left, or_right}
 use Rattle.std.proofs.lemmas.Bool.Decides.{nat_tests}
-use Rattle.blocking_world_holders.proofs.Types.{Fault, HolderWaker, ItemAction, OpAction, ReadAction, SeekAction, WriteAction, Act, Answered, Drained, Finished, GaveUp, JobClosed, JobParked, Lost, Peeked, Put, ResultPut, RoomFree, RoomShut, TakenOut, Event, Answer, HandleCall, OwnerStage}
-use Rattle.blocking_world_holders.proofs.Words.{item_next, operation_next, Pipe, room, Closed, Met, Served, Waiting, find_room, hand_in, peek, read_next, seek_next, Slot, after_put, answer_of, slot_after, slot_without_job, waker_out_of, write_next, Growth, JobNumber, is_in, EndsTruly, back_by, came_back, AskBytes, AskCall, AskFlush, AskItem, AskResult, AskSeek, CloseEnd, Consume, FindRoom, Finish, JobAction, Kind, OfferBytes, Operating, Peek, PutPiece, PutResult, Reading, Seeking, SendItem, Streaming, Writing, fault, has_finished, has_given_up, has_result, is_answer, is_over, is_taken, job_next_after_answer, next_but_wake, next_of_job, number, piece, takes_waker, job_wake_first, JobActs, Works, is_job_seated, job_seated_by, pipe_seat, pipe_seated_by, place_of, result_seat, result_seated_by, slot_seat, slot_seated_by, next_of_owner, owner_next_but_wake, accepted, got, inside, is_serial, room_in, seated, seen_peek, seen_put, seen_room, waker_in, acts_of, is_nothing, is_of_pool, own, SeenSession, seen_call, seen_is_dropped, seen_is_shut, jobs_of, kind_of_job, seen_last_session, seen_session, seen_state, was_woken, OperationAs, OpProgress, operation_action_as, operation_action_of, by_its_job, IsAtEnd, OwnerAs, PlaceAs, PlaceBy, ResultAs, SessionAs, StageBy, has_found, is_seated, newest_note, ReadProgress as Progress, ReadAs, read_action_as as action_as, read_action_of as action_of, SeekProgress, SeekAs, seek_action_as, seek_action_of, Session, Work, finish_wakes, fits_in, found_piece, found_put, found_room, found_send, give_up_wakes, operation_finishes, operation_puts, result_wakes, seek_finishes, session_after_give_up, session_after_job_close, streamer_closes, streamer_finishes, work_at_peek, work_at_put, work_at_room, work_at_send, work_of_close, work_of_consume, work_of_finish, writer_closes, writer_finishes, ItemAs, ItemProgress, item_action_as, item_action_of, WriteProgress, WriteAs, write_action_as, write_action_of, write_fault_of}
+use Rattle.blocking_world_holders.proofs.Types.{Fault, HolderWaker, ItemAction, OpAction}
+use Rattle.blocking_world_holders.proofs.Types.{ReadAction, SeekAction, WriteAction, Act, Answered}
+use Rattle.blocking_world_holders.proofs.Types.{Drained, Finished, GaveUp, JobClosed, JobParked}
+use Rattle.blocking_world_holders.proofs.Types.{Lost, Peeked, Put, ResultPut, RoomFree, RoomShut}
+use Rattle.blocking_world_holders.proofs.Types.{TakenOut, Event, Answer, HandleCall, OwnerStage}
+use Rattle.blocking_world_holders.proofs.Words.{item_next, operation_next, Pipe, room, Closed, Met}
+use Rattle.blocking_world_holders.proofs.Words.{Served, Waiting, find_room, hand_in, peek}
+use Rattle.blocking_world_holders.proofs.Words.{read_next, seek_next, Slot, after_put, answer_of}
+use Rattle.blocking_world_holders.proofs.Words.{slot_after, slot_without_job, waker_out_of}
+use Rattle.blocking_world_holders.proofs.Words.{write_next, Growth, JobNumber, is_in, EndsTruly}
+use Rattle.blocking_world_holders.proofs.Words.{back_by, came_back, AskBytes, AskCall, AskFlush}
+use Rattle.blocking_world_holders.proofs.Words.{AskItem, AskResult, AskSeek, CloseEnd, Consume}
+use Rattle.blocking_world_holders.proofs.Words.{FindRoom, Finish, JobAction, Kind, OfferBytes}
+use Rattle.blocking_world_holders.proofs.Words.{Operating, Peek, PutPiece, PutResult, Reading}
+use Rattle.blocking_world_holders.proofs.Words.{Seeking, SendItem, Streaming, Writing, fault}
+use Rattle.blocking_world_holders.proofs.Words.{has_finished, has_given_up, has_result, is_answer}
+use Rattle.blocking_world_holders.proofs.Words.{is_over, is_taken, job_next_after_answer}
+use Rattle.blocking_world_holders.proofs.Words.{next_but_wake, next_of_job, number, piece}
+use Rattle.blocking_world_holders.proofs.Words.{takes_waker, job_wake_first, JobActs, Works}
+use Rattle.blocking_world_holders.proofs.Words.{is_job_seated, job_seated_by, pipe_seat}
+use Rattle.blocking_world_holders.proofs.Words.{pipe_seated_by, place_of, result_seat}
+use Rattle.blocking_world_holders.proofs.Words.{result_seated_by, slot_seat, slot_seated_by}
+use Rattle.blocking_world_holders.proofs.Words.{next_of_owner, owner_next_but_wake, accepted, got}
+use Rattle.blocking_world_holders.proofs.Words.{inside, is_serial, room_in, seated, seen_peek}
+use Rattle.blocking_world_holders.proofs.Words.{seen_put, seen_room, waker_in, acts_of, is_nothing}
+use Rattle.blocking_world_holders.proofs.Words.{is_of_pool, own, SeenSession, seen_call}
+use Rattle.blocking_world_holders.proofs.Words.{seen_is_dropped, seen_is_shut, jobs_of, kind_of_job}
+use Rattle.blocking_world_holders.proofs.Words.{seen_last_session, seen_session, seen_state}
+use Rattle.blocking_world_holders.proofs.Words.{was_woken, OperationAs, OpProgress}
+use Rattle.blocking_world_holders.proofs.Words.{operation_action_as, operation_action_of}
+use Rattle.blocking_world_holders.proofs.Words.{by_its_job, IsAtEnd, OwnerAs, PlaceAs, PlaceBy}
+use Rattle.blocking_world_holders.proofs.Words.{ResultAs, SessionAs, StageBy, has_found, is_seated}
+use Rattle.blocking_world_holders.proofs.Words.{newest_note, ReadProgress as Progress, ReadAs}
+use Rattle.blocking_world_holders.proofs.Words.{read_action_as as action_as}
+use Rattle.blocking_world_holders.proofs.Words.{read_action_of as action_of, SeekProgress, SeekAs}
+use Rattle.blocking_world_holders.proofs.Words.{seek_action_as, seek_action_of, Session, Work}
+use Rattle.blocking_world_holders.proofs.Words.{finish_wakes, fits_in, found_piece, found_put}
+use Rattle.blocking_world_holders.proofs.Words.{found_room, found_send, give_up_wakes}
+use Rattle.blocking_world_holders.proofs.Words.{operation_finishes, operation_puts, result_wakes}
+use Rattle.blocking_world_holders.proofs.Words.{seek_finishes, session_after_give_up}
+use Rattle.blocking_world_holders.proofs.Words.{session_after_job_close, streamer_closes}
+use Rattle.blocking_world_holders.proofs.Words.{streamer_finishes, work_at_peek, work_at_put}
+use Rattle.blocking_world_holders.proofs.Words.{work_at_room, work_at_send, work_of_close}
+use Rattle.blocking_world_holders.proofs.Words.{work_of_consume, work_of_finish, writer_closes}
+use Rattle.blocking_world_holders.proofs.Words.{writer_finishes, ItemAs, ItemProgress}
+use Rattle.blocking_world_holders.proofs.Words.{item_action_as, item_action_of, WriteProgress}
+use Rattle.blocking_world_holders.proofs.Words.{WriteAs, write_action_as, write_action_of}
+use Rattle.blocking_world_holders.proofs.Words.{write_fault_of}
 use Rattle.blocking_world_laws.specs.OwnerTable as law
 use Rattle.blocking_world_holders.proofs.owners.Jobs.{no_wait}
-use Rattle.blocking_world_holders.proofs.owners.Cuts.{its_kind, kind_is, inside_is, next_stays, room_is, open_is}
+use Rattle.blocking_world_holders.proofs.owners.Cuts.{its_kind, kind_is, inside_is, next_stays}
+use Rattle.blocking_world_holders.proofs.owners.Cuts.{room_is, open_is}
 use Rattle.blocking_world_holders.proofs.owners.Polls.{Goes, owner_by_parts, bound}
 use Rattle.blocking_world_holders.proofs.owners.ReadJobs.{next_by, action_is, awake, asks}
-use Rattle.blocking_world_holders.proofs.owners.ReadSessions.{At, at, finds, finds_shut, parks, puts, loses, closes, finishes, gives_up, going, some_room, put_is}
-use Rattle.blocking_world_holders.proofs.owners.WriteSessions.{peeks, peek_parks, drains, consumes, writer_answers}
-use Rattle.blocking_world_holders.proofs.owners.ItemSessions.{item_answers, send_loses, send_parks, sends}
+use Rattle.blocking_world_holders.proofs.owners.ReadSessions.{At, at, finds, finds_shut, parks}
+use Rattle.blocking_world_holders.proofs.owners.ReadSessions.{puts, loses, closes, finishes}
+use Rattle.blocking_world_holders.proofs.owners.ReadSessions.{gives_up, going, some_room, put_is}
+use Rattle.blocking_world_holders.proofs.owners.WriteSessions.{peeks, peek_parks, drains, consumes}
+use Rattle.blocking_world_holders.proofs.owners.WriteSessions.{writer_answers}
+use Rattle.blocking_world_holders.proofs.owners.ItemSessions.{item_answers, send_loses, send_parks}
+use Rattle.blocking_world_holders.proofs.owners.ItemSessions.{sends}
 use Rattle.blocking_world_holders.proofs.owners.SeekSessions.{seek_answers, seek_puts}
 use Rattle.blocking_world_holders.proofs.owners.OpSessions.{operation_answers, result_puts}
 use Rattle.blocking_world_holders.proofs.owners.Results.{is_operating}
@@ -31,22 +84,27 @@ seated_is o = grind arith
 takes_it : (b : Bool) → is_taken (waker_in b) ≡ b
 takes_it b = grind arith
 
--- an owner that was seated is taken out of the second or third of three seats, or still sits in another
-pub taken_second : (a b c woke after : Bool) → woke ≡ b → a || (b || c) ≡ true → (is_taken (waker_in woke) ≡ true) ⊎ (a || (after || c) ≡ true)
+-- an owner that was seated is taken out of the second or third of three seats, or still sits in
+-- another
+pub taken_second : (a b c woke after : Bool) → woke ≡ b → a || (b || c) ≡ true
+    → (is_taken (waker_in woke) ≡ true) ⊎ (a || (after || c) ≡ true)
 taken_second true b c woke after same e = inr refl
 taken_second false true c woke after same e = inl (ap (λ d. is_taken (waker_in d)) same)
 taken_second false false c woke after same e = inr (or_right after c e)
 
-pub taken_third : (a b c woke after : Bool) → woke ≡ c → a || (b || c) ≡ true → (is_taken (waker_in woke) ≡ true) ⊎ (a || (b || after) ≡ true)
+pub taken_third : (a b c woke after : Bool) → woke ≡ c → a || (b || c) ≡ true
+    → (is_taken (waker_in woke) ≡ true) ⊎ (a || (b || after) ≡ true)
 taken_third true b c woke after same e = inr refl
 taken_third false true c woke after same e = inr refl
 taken_third false false c woke after same e = inl (ap (λ d. is_taken (waker_in d)) (same ∙ e))
 
 -- what is answered asks, and isn't over
-pub asking_goes : (action : JobAction) (answer : Answer) → is_answer action answer ≡ true → is_over action ≡ false
+pub asking_goes : (action : JobAction) (answer : Answer) → is_answer action answer ≡ true
+    → is_over action ≡ false
 asking_goes action answer is = grind arith
 
-answers_it : (cut : List Event) (action : JobAction) (answer : Answer) → is_answer action answer ≡ true → Works cut action (Answered answer)
+answers_it : (cut : List Event) (action : JobAction) (answer : Answer)
+    → is_answer action answer ≡ true → Works cut action (Answered answer)
 answers_it cut AskCall answer is = is
 answers_it cut (AskBytes n) answer is = is
 answers_it cut (OfferBytes bytes) answer is = is
@@ -56,7 +114,9 @@ answers_it cut AskSeek answer is = is
 answers_it cut AskResult answer is = is
 answers_it cut _ answer is = absurd (cc)
 
-module _ (bytes client : ℕ) (asked : Option HandleCall) (here : OwnerStage) (s : Session) (h v first : ℕ) (growth : Growth) (cut : List Event) (t : OwnerAs (owner_by_parts bytes client asked here (Some s)) cut) where
+module _ (bytes client : ℕ) (asked : Option HandleCall) (here : OwnerStage)
+    (s : Session) (h v first : ℕ) (growth : Growth) (cut : List Event)
+    (t : OwnerAs (owner_by_parts bytes client asked here (Some s)) cut) where
   -- what the tie of the session is about
   abbrev began : Option SeenSession
   began = seen_last_session (own cut)
@@ -101,67 +161,100 @@ module _ (bytes client : ℕ) (asked : Option HandleCall) (here : OwnerStage) (s
   abbrev event : Act → Event
   event act = by_its_job h v s.number.serial act first growth
 
-  acts_more : (act : Act) → is_of_pool act ≡ false → is_nothing act ≡ false → acts_of s.number.serial (event act ∷ cut) ≡ act ∷ acts
+  acts_more : (act : Act) → is_of_pool act ≡ false → is_nothing act ≡ false
+      → acts_of s.number.serial (event act ∷ cut) ≡ act ∷ acts
   acts_more act pool nothing = rw (pool, nothing, eq-eqb s.number.serial s.number.serial refl) refl
 
-  acts_other : (act : Act) (n : ℕ) → is_of_pool act ≡ false → is_nothing act ≡ false → (s.number.serial == n) ≡ false → acts_of n (event act ∷ cut) ≡ acts_of n cut
+  acts_other : (act : Act) (n : ℕ) → is_of_pool act ≡ false → is_nothing act ≡ false
+      → (s.number.serial == n) ≡ false → acts_of n (event act ∷ cut) ≡ acts_of n cut
   acts_other act n pool nothing other = rw (pool, nothing, other) refl
 
   -- the tie of a session that is then so, of this kind, by the acts of its job and by who is seated
   abbrev pub Tied : Session → Kind → List Act → Bool → Bool → Bool → Type 0
-  Tied now k l job_sits pipe_sits slot_sits = SessionAs now k (bound bytes k) began shut over gone took written l job_sits pipe_sits slot_sits
+  Tied now k l job_sits pipe_sits slot_sits = SessionAs now k (bound bytes k) began shut over gone
+      took written l job_sits pipe_sits slot_sits
 
   pub last_as : (k : Kind) → kind ≡ k → Tied s k acts js ps ss
   last_as k same = subst (λ k. Tied s k acts js ps ss) same t.last
 
   -- the session with this pipe, place of the result, slot and number
-  abbrev now_at : Pipe ℕ (Unit {0}) → Slot ℕ (Unit {0}) → Slot (Option (Fault ℕ)) (Unit {0}) → ℕ → Session
-  now_at pipe result slot left = record { number = s.number; goods = s.goods; item = s.item; pipe = pipe; result = result; slot = slot; left = left }
+  abbrev now_at : Pipe ℕ (Unit {0}) → Slot ℕ (Unit {0}) → Slot (Option (Fault ℕ)) (Unit {0}) → ℕ
+      → Session
+  now_at pipe result slot left = record {
+    number = s.number;
+    goods = s.goods;
+    item = s.item;
+    pipe = pipe;
+    result = result;
+    slot = slot;
+    left = left;
+  }
 
-  -- An act that is a job's own: the pool is asked nothing, the handle stays away, and once the session is over no fault and no number comes.
+  -- An act that is a job's own: the pool is asked nothing, the handle stays away, and once the
+  -- session is over no fault and no number comes.
   pub record IsOwn (act : Act) : Type 0 where
     pub pool : is_of_pool act ≡ false
     pub nothing : is_nothing act ≡ false
     pub ends : EndsTruly cut act
     pub back : (here : List Event) (before : Option (List Event)) → back_by act here before ≡ before
-    pub faults : over ≡ true → (any : Kind) → (fault any (act ∷ acts) ≡ fault any acts) × (number (act ∷ acts) ≡ number acts)
+    pub faults : over ≡ true → (any : Kind)
+        → (fault any (act ∷ acts) ≡ fault any acts) × (number (act ∷ acts) ≡ number acts)
 
   -- What an act of the job, which is of this kind, has to keep, so that the tie and the law do.
-  pub record KeepsAll (k : Kind) (act : Act) (pipe : Pipe ℕ (Unit {0})) (result : Slot ℕ (Unit {0})) (slot : Slot (Option (Fault ℕ)) (Unit {0})) (left : ℕ) : Type 0 where
+  pub record KeepsAll (k : Kind) (act : Act) (pipe : Pipe ℕ (Unit {0})) (result : Slot ℕ (Unit {0}))
+      (slot : Slot (Option (Fault ℕ)) (Unit {0})) (left : ℕ) : Type 0 where
     pub own_is : IsOwn act
     pub lawful : JobActs cut s.number.serial k act
     pub session :
         Tied (now_at pipe result slot left) k (act ∷ acts)
-        (job_seated_by act (is_job_seated cut)) (pipe_seated_by act (place_of (next_of_owner cut)) (pipe_seat cut))
+        (job_seated_by act (is_job_seated cut))
+        (pipe_seated_by act (place_of (next_of_owner cut)) (pipe_seat cut))
         (slot_seated_by act (place_of (next_of_owner cut)) (slot_seat cut))
-    pub place : PlaceBy result k (act ∷ acts) came (result_seated_by act (place_of (next_of_owner cut)) rs)
+    pub place :
+        PlaceBy result k (act ∷ acts) came (result_seated_by act (place_of (next_of_owner cut)) rs)
     pub ended : IsAtEnd s → IsAtEnd (now_at pipe result slot left)
-    pub told : is_seated (Some s) ≡ true → (takes_waker act ≡ true) ⊎ (is_seated (Some (now_at pipe result slot left)) ≡ true)
+    pub told : is_seated (Some s) ≡ true
+        → (takes_waker act ≡ true) ⊎ (is_seated (Some (now_at pipe result slot left)) ≡ true)
 
   -- the job of a session that runs no operation leaves it
-  same_place : (k : Kind) → kind ≡ k → is_operating k ≡ false → (act : Act) → has_result (act ∷ acts) ≡ has_result acts → result_seated_by act (place_of (next_of_owner cut)) rs ≡ rs
-      → PlaceBy s.result k (act ∷ acts) came (result_seated_by act (place_of (next_of_owner cut)) rs)
+  same_place : (k : Kind)
+      → kind ≡ k → is_operating k ≡ false → (act : Act) → has_result (act ∷ acts) ≡ has_result acts
+      → result_seated_by act (place_of (next_of_owner cut)) rs ≡ rs
+      → PlaceBy s.result k (act ∷ acts) came
+      (result_seated_by act (place_of (next_of_owner cut)) rs)
   same_place k of other act put seated =
       subst (λ b. PlaceBy s.result k (act ∷ acts) came b) (sym seated)
-      (subst (λ b. PlaceAs s.result k (next_but_wake k (act ∷ acts)) (has_given_up (act ∷ acts)) b came (number (act ∷ acts)) rs) (sym put)
-      (results.kept s.result (has_given_up acts) (has_result acts) came (number acts) rs k (next_but_wake k acts) (next_but_wake k (act ∷ acts)) (has_given_up (act ∷ acts)) (number (act ∷ acts)) other
+      (subst (λ b. PlaceAs s.result k (next_but_wake k (act ∷ acts)) (has_given_up (act ∷ acts)) b
+      came (number (act ∷ acts)) rs) (sym put)
+      (results.kept s.result (has_given_up acts) (has_result acts) came (number acts) rs
+      k (next_but_wake k acts) (next_but_wake k (act ∷ acts)) (has_given_up (act ∷ acts))
+      (number (act ∷ acts)) other
       (subst (λ any. PlaceBy s.result any acts came rs) of t.place)))
 
   serial_test : (n : ℕ) → is_serial began (Some n) ≡ false → (s.number.serial == n) ≡ false
   serial_test n other =
-      let test : (n == s.number.serial) ≡ false = ap (λ r. is_serial r (Some n)) (sym t.last.lent.begun) ∙ other in
+      let test : (n == s.number.serial) ≡ false =
+      ap (λ r. is_serial r (Some n)) (sym t.last.lent.begun) ∙ other in
       grind (arith, nat_tests)
 
-  pub keeps_all : (of : Kind) → kind ≡ of → (act : Act) (pipe : Pipe ℕ (Unit {0})) (result : Slot ℕ (Unit {0})) (slot : Slot (Option (Fault ℕ)) (Unit {0})) (left : ℕ) → is_in s.number.serial (jobs_of (own cut)) ≡ true
+  pub keeps_all : (of : Kind) → kind ≡ of → (act : Act) (pipe : Pipe ℕ (Unit {0}))
+      (result : Slot ℕ (Unit {0})) (slot : Slot (Option (Fault ℕ)) (Unit {0})) (left : ℕ)
+      → is_in s.number.serial (jobs_of (own cut)) ≡ true
       → KeepsAll of act pipe result slot left
-      → Goes (owner_by_parts bytes client asked here (Some (now_at pipe result slot left))) cut (event act)
+      → Goes (owner_by_parts bytes client asked here (Some (now_at pipe result slot left))) cut
+      (event act)
   keeps_all of same act pipe result slot left among k =
       let e = event act in
       let more = acts_more act k.own_is.pool k.own_is.nothing in
-      let faults = λ (is : over ≡ true) (any : Kind) (n : ℕ). same_fault is any n (s.number.serial == n) refl in
+      let faults = λ (is : over ≡ true) (any : Kind) (n : ℕ).
+      same_fault is any n (s.number.serial == n) refl in
       let next = next_stays (e ∷ cut) cut (own cut) faults in
       record {
-        acts = (among, subst (λ any. JobActs cut s.number.serial any act) (sym (kind_is s (bound bytes) cut t.last ∙ same)) k.lawful);
+        acts = (
+          among,
+          subst (λ any. JobActs cut s.number.serial any act)
+              (sym (kind_is s (bound bytes) cut t.last ∙ same)) k.lawful,
+        );
         ends = k.own_is.ends;
         tie = record {
           made = t.made;
@@ -169,61 +262,90 @@ module _ (bytes client : ℕ) (asked : Option HandleCall) (here : OwnerStage) (s
           asked = t.asked;
           polled = t.polled;
           bytes = t.bytes;
-          stage = subst (λ n. StageBy here s.item (seen_call (own cut)) (seen_state (own cut)) n (law.is_at_end (own cut)) (came_back (e ∷ cut)) (newest_note (own cut))) (sym next)
-              (subst (λ b. StageBy here s.item (seen_call (own cut)) (seen_state (own cut)) (owner_next_but_wake cut (own cut)) (law.is_at_end (own cut)) b (newest_note (own cut)))
+          stage = subst (λ n. StageBy here s.item (seen_call (own cut)) (seen_state (own cut)) n
+              (law.is_at_end (own cut)) (came_back (e ∷ cut)) (newest_note (own cut))) (sym next)
+              (subst (λ b. StageBy here s.item (seen_call (own cut)) (seen_state (own cut))
+              (owner_next_but_wake cut (own cut)) (law.is_at_end (own cut)) b
+              (newest_note (own cut)))
               (sym (k.own_is.back (e ∷ cut) (came_back cut))) t.stage);
           last = subst (λ (l : List Act). Tied (now_at pipe result slot left) kind l
-              (job_seated_by act (is_job_seated cut)) (pipe_seated_by act (place_of (next_of_owner cut)) (pipe_seat cut)) (slot_seated_by act (place_of (next_of_owner cut)) (slot_seat cut)))
+              (job_seated_by act (is_job_seated cut))
+              (pipe_seated_by act (place_of (next_of_owner cut)) (pipe_seat cut))
+              (slot_seated_by act (place_of (next_of_owner cut)) (slot_seat cut)))
               (sym more)
               (subst (λ any. Tied (now_at pipe result slot left) any (act ∷ acts)
-              (job_seated_by act (is_job_seated cut)) (pipe_seated_by act (place_of (next_of_owner cut)) (pipe_seat cut)) (slot_seated_by act (place_of (next_of_owner cut)) (slot_seat cut)))
+              (job_seated_by act (is_job_seated cut))
+              (pipe_seated_by act (place_of (next_of_owner cut)) (pipe_seat cut))
+              (slot_seated_by act (place_of (next_of_owner cut)) (slot_seat cut)))
               (sym same) k.session);
           operates = t.operates;
-          place = subst (λ (l : List Act). PlaceBy result kind l came (result_seated_by act (place_of (next_of_owner cut)) rs)) (sym more)
-              (subst (λ any. PlaceBy result any (act ∷ acts) came (result_seated_by act (place_of (next_of_owner cut)) rs)) (sym same) k.place);
+          place = subst (λ (l : List Act). PlaceBy result kind l came
+              (result_seated_by act (place_of (next_of_owner cut)) rs)) (sym more)
+              (subst (λ any. PlaceBy result any (act ∷ acts) came
+              (result_seated_by act (place_of (next_of_owner cut)) rs)) (sym same) k.place);
           ended = λ is_end. k.ended (t.ended is_end);
-          earlier = λ n among other. ap (next_but_wake (kind_of_job n (own cut))) (acts_other act n k.own_is.pool k.own_is.nothing (serial_test n other)) ∙ t.earlier n among other;
+          earlier = λ n among other. ap (next_but_wake (kind_of_job n (own cut)))
+              (acts_other act n k.own_is.pool k.own_is.nothing (serial_test n other))
+              ∙ t.earlier n among other;
           noted = t.noted;
           told = λ waits. (
             (t.told waits).0,
             ⊎_elim (λ woken. inl (or_right (takes_waker act) (was_woken cut) woken))
-                (λ sits. ⊎_elim (λ takes. inl (or_left (takes_waker act) (was_woken cut) takes)) (λ still. inr still) (k.told sits)) (t.told waits).1,
+                (λ sits. ⊎_elim (λ takes. inl (or_left (takes_waker act) (was_woken cut) takes))
+                (λ still. inr still) (k.told sits)) (t.told waits).1,
           );
         };
       }
     where
       same_fault : over ≡ true → (any : Kind) (n : ℕ) (b : Bool) → (s.number.serial == n) ≡ b
-          → (fault any (acts_of n (event act ∷ cut)) ≡ fault any (acts_of n cut)) × (number (acts_of n (event act ∷ cut)) ≡ number (acts_of n cut))
+          → (fault any (acts_of n (event act ∷ cut)) ≡ fault any (acts_of n cut))
+          × (number (acts_of n (event act ∷ cut)) ≡ number (acts_of n cut))
       same_fault is any n true test =
           let same : s.number.serial ≡ n = grind (arith, nat_tests) in
           let more = acts_more act k.own_is.pool k.own_is.nothing in
-          subst (λ m. (fault any (acts_of m (event act ∷ cut)) ≡ fault any (acts_of m cut)) × (number (acts_of m (event act ∷ cut)) ≡ number (acts_of m cut))) same
-          (ap (fault any) more ∙ (k.own_is.faults is any).0, ap number more ∙ (k.own_is.faults is any).1)
-      same_fault is any n false test = let other = acts_other act n k.own_is.pool k.own_is.nothing test in (ap (fault any) other, ap number other)
+          subst (λ m. (fault any (acts_of m (event act ∷ cut)) ≡ fault any (acts_of m cut))
+          × (number (acts_of m (event act ∷ cut)) ≡ number (acts_of m cut))) same (
+            ap (fault any) more ∙ (k.own_is.faults is any).0,
+            ap number more ∙ (k.own_is.faults is any).1,
+          )
+      same_fault is any n false test =
+          let other = acts_other act n k.own_is.pool k.own_is.nothing test in
+          (ap (fault any) other, ap number other)
 
   -- ---- acts that jobs of several kinds have in common, at the session
 
   -- the law and the tie after an act of the job
   abbrev pub WorksOn : (J : Type 0) → Work J → Type 0
-  WorksOn J work = Goes (owner_by_parts bytes client asked here (Some work.session)) cut (event work.act)
+  WorksOn J work =
+      Goes (owner_by_parts bytes client asked here (Some work.session)) cut (event work.act)
 
-  module _ (of : Kind) (same : kind ≡ of) (among : is_in s.number.serial (jobs_of (own cut)) ≡ true) where
+  module _ (of : Kind) (same : kind ≡ of)
+      (among : is_in s.number.serial (jobs_of (own cut)) ≡ true) where
     -- the tie, by what it does next
-    tied : (next : JobAction) → next_but_wake of acts ≡ next → At s of (bound bytes of) began shut over gone took written acts js ps ss next
-    tied next e = at s of (bound bytes of) began shut over gone took written acts js ps ss next e (last_as of same)
+    tied : (next : JobAction) → next_but_wake of acts ≡ next
+        → At s of (bound bytes of) began shut over gone took written acts js ps ss next
+    tied next e = at s of (bound bytes of) began shut over gone took written acts js ps ss next e
+        (last_as of same)
 
     -- what fits that is lawful
-    lawful_at : (next : JobAction) (act : Act) → next_of_job of acts ≡ next → Works cut next act → Works cut (next_of_job of acts) act
+    lawful_at : (next : JobAction) (act : Act) → next_of_job of acts ≡ next → Works cut next act
+        → Works cut (next_of_job of acts) act
     lawful_at next act is law = subst (λ a. Works cut a act) (sym is) law
 
     -- it leaves the pipe as it is, but for its own seat there
-    stays_goes : is_operating of ≡ false → (act : Act) (seat : Option JobNumber) → IsOwn act → (has_result (act ∷ acts) ≡ has_result acts) × (result_seated_by act (place_of (next_of_owner cut)) rs ≡ rs)
+    stays_goes : is_operating of ≡ false → (act : Act) (seat : Option JobNumber)
+        → IsOwn act → (has_result (act ∷ acts) ≡ has_result acts)
+        × (result_seated_by act (place_of (next_of_owner cut)) rs ≡ rs)
         → JobActs cut s.number.serial of act
         → Tied (now_at (record s.pipe { job_seat = seat }) s.result s.slot s.left) of (act ∷ acts)
-        (job_seated_by act (is_job_seated cut)) (pipe_seated_by act (place_of (next_of_owner cut)) (pipe_seat cut)) (slot_seated_by act (place_of (next_of_owner cut)) (slot_seat cut))
-        → Goes (owner_by_parts bytes client asked here (Some (now_at (record s.pipe { job_seat = seat }) s.result s.slot s.left))) cut (event act)
+        (job_seated_by act (is_job_seated cut)) (pipe_seated_by act (place_of (next_of_owner cut))
+        (pipe_seat cut)) (slot_seated_by act (place_of (next_of_owner cut)) (slot_seat cut))
+        → Goes (owner_by_parts bytes client asked
+        here (Some (now_at (record s.pipe { job_seat = seat }) s.result s.slot s.left))) cut
+        (event act)
     stays_goes other act seat own_is leaves lawful session =
-        keeps_all of same act (record s.pipe { job_seat = seat }) s.result s.slot s.left among (record {
+        keeps_all of same act (record s.pipe { job_seat = seat }) s.result s.slot s.left among
+        (record {
           own_is = own_is;
           lawful = lawful;
           session = session;
@@ -233,12 +355,16 @@ module _ (bytes client : ℕ) (asked : Option HandleCall) (here : OwnerStage) (s
         })
 
     -- it changes the pipe, and calls the owner where it sits there
-    pipe_goes : is_operating of ≡ false → (act : Act) (pipe : Pipe ℕ (Unit {0})) → IsOwn act → (has_result (act ∷ acts) ≡ has_result acts) × (result_seated_by act (place_of (next_of_owner cut)) rs ≡ rs)
+    pipe_goes : is_operating of ≡ false → (act : Act) (pipe : Pipe ℕ (Unit {0}))
+        → IsOwn act → (has_result (act ∷ acts) ≡ has_result acts)
+        × (result_seated_by act (place_of (next_of_owner cut)) rs ≡ rs)
         → JobActs cut s.number.serial of act
         → Tied (now_at pipe s.result s.slot s.left) of (act ∷ acts)
-        (job_seated_by act (is_job_seated cut)) (pipe_seated_by act (place_of (next_of_owner cut)) (pipe_seat cut)) (slot_seated_by act (place_of (next_of_owner cut)) (slot_seat cut))
+        (job_seated_by act (is_job_seated cut)) (pipe_seated_by act (place_of (next_of_owner cut))
+        (pipe_seat cut)) (slot_seated_by act (place_of (next_of_owner cut)) (slot_seat cut))
         → s.pipe.is_job_open ≡ true → takes_waker act ≡ is_some s.pipe.owner_seat
-        → Goes (owner_by_parts bytes client asked here (Some (now_at pipe s.result s.slot s.left))) cut (event act)
+        → Goes (owner_by_parts bytes client asked here (Some (now_at pipe s.result s.slot s.left)))
+        cut (event act)
     pipe_goes other act pipe own_is leaves lawful session lasts takes =
         keeps_all of same act pipe s.result s.slot s.left among (record {
           own_is = own_is;
@@ -246,50 +372,90 @@ module _ (bytes client : ℕ) (asked : Option HandleCall) (here : OwnerStage) (s
           session = session;
           place = same_place of same other act leaves.0 leaves.1;
           ended = λ e. absurd (let closed = e.1 in cc);
-          told = λ e. called (is_some s.pipe.owner_seat) (is_some pipe.owner_seat) takes (is_some s.slot.seat || is_some s.result.seat) e;
+          told = λ e. called (is_some s.pipe.owner_seat) (is_some pipe.owner_seat) takes
+              (is_some s.slot.seat || is_some s.result.seat) e;
         })
       where
-        called : (sat sits : Bool) → takes_waker act ≡ sat → (b : Bool) → sat || b ≡ true → (takes_waker act ≡ true) ⊎ (sits || b ≡ true)
+        called : (sat sits : Bool) → takes_waker act ≡ sat → (b : Bool) → sat || b ≡ true
+            → (takes_waker act ≡ true) ⊎ (sits || b ≡ true)
         called true sits takes b e = inl takes
         called false sits takes b e = inr (or_right sits b e)
 
     -- it closes its end of the pipe
-    closes_goes : is_operating of ≡ false → next_of_job of acts ≡ CloseEnd → s.pipe.is_job_open ≡ true → At s of (bound bytes of) began shut over gone took written acts js ps ss CloseEnd
-        → Goes (owner_by_parts bytes client asked here (Some (session_after_job_close s))) cut (event (JobClosed (waker_in (is_some s.pipe.owner_seat))))
+    closes_goes : is_operating of ≡ false → next_of_job of acts ≡ CloseEnd → s.pipe.is_job_open
+        ≡ true → At s of (bound bytes of) began shut over gone took written acts js ps ss CloseEnd
+        → Goes (owner_by_parts bytes client asked here (Some (session_after_job_close s))) cut
+        (event (JobClosed (waker_in (is_some s.pipe.owner_seat))))
     closes_goes other next lasts here_now =
         let act = JobClosed (waker_in (is_some s.pipe.owner_seat)) in
-        pipe_goes other act (record s.pipe { is_job_open = false; owner_seat = None }) (record { pool = refl; nothing = refl; ends = tt; back = λ here before. refl; faults = λ is any. (refl, refl) }) (refl, refl)
+        pipe_goes other act (record s.pipe { is_job_open = false; owner_seat = None })
+        (record {
+          pool = refl;
+          nothing = refl;
+          ends = tt;
+          back = λ here before. refl;
+          faults = λ is any. (refl, refl);
+        }) (refl, refl)
         (lawful_at CloseEnd act next (ap (λ b. JobClosed (waker_in b)) (sym t.last.seats.owner)))
-        (closes s of (bound bytes of) began shut over gone took written acts js ps ss (waker_in (is_some s.pipe.owner_seat)) here_now) lasts (takes_it (is_some s.pipe.owner_seat))
+        (closes s of (bound bytes of) began shut over
+        gone took written acts js ps ss (waker_in (is_some s.pipe.owner_seat)) here_now) lasts
+        (takes_it (is_some s.pipe.owner_seat))
 
     -- it puts its result
-    finishes_goes : (why : Option (Fault ℕ)) (left : ℕ) → next_of_job of acts ≡ Finish → At s of (bound bytes of) began shut over gone took written acts js ps ss Finish
+    finishes_goes : (why : Option (Fault ℕ)) (left : ℕ) → next_of_job of acts ≡ Finish
+        → At s of (bound bytes of) began shut over gone took written acts js ps ss Finish
         → ((waker : HolderWaker) → PlaceBy s.result of (Finished waker ∷ acts) came rs)
-        → ((waker : HolderWaker) → Tied (now_at s.pipe s.result (slot_after s.slot.content s.slot.seat why) left) of (Finished waker ∷ acts) js ps false)
-        → Goes (owner_by_parts bytes client asked here (Some (now_at s.pipe s.result (slot_after s.slot.content s.slot.seat why) left))) cut (event (Finished (waker_in (finish_wakes why s))))
+        → ((waker : HolderWaker)
+        → Tied (now_at s.pipe s.result (slot_after s.slot.content s.slot.seat why) left) of
+        (Finished waker ∷ acts) js ps false)
+        → Goes (owner_by_parts bytes client asked here
+        (Some (now_at s.pipe s.result (slot_after s.slot.content s.slot.seat why) left))) cut
+        (event (Finished (waker_in (finish_wakes why s))))
     finishes_goes why left next here_now place session =
-        let empty = (going s.slot.content (has_finished acts) (has_given_up acts) over gone (fault of acts) here_now.result).empty in
+        let empty = (going s.slot.content (has_finished acts) (has_given_up acts) over gone
+        (fault of acts) here_now.result).empty in
         let woke = finish_wakes why s in
-        let sits : woke ≡ is_some s.slot.seat = ap (λ c. is_some (answer_of c s.slot.seat why).wake) empty in
+        let sits : woke ≡ is_some s.slot.seat =
+        ap (λ c. is_some (answer_of c s.slot.seat why).wake) empty in
         let act = Finished (waker_in woke) in
-        keeps_all of same act s.pipe s.result (slot_after s.slot.content s.slot.seat why) left among (record {
-          own_is = record { pool = refl; nothing = refl; ends = tt; back = λ here before. refl; faults = λ is any. (refl, refl) };
-          lawful = lawful_at Finish act next (ap (λ b. Finished (waker_in b)) (sits ∙ sym t.last.seats.slot));
+        keeps_all of same act s.pipe s.result (slot_after s.slot.content s.slot.seat why) left among
+        (record {
+          own_is = record {
+            pool = refl;
+            nothing = refl;
+            ends = tt;
+            back = λ here before. refl;
+            faults = λ is any. (refl, refl);
+          };
+          lawful = lawful_at Finish act next
+              (ap (λ b. Finished (waker_in b)) (sits ∙ sym t.last.seats.slot));
           session = session (waker_in woke);
           place = place (waker_in woke);
           ended = λ e. e;
-          told = λ e. taken_second (is_some s.pipe.owner_seat) (is_some s.slot.seat) (is_some s.result.seat) woke _ sits e;
+          told = λ e. taken_second (is_some s.pipe.owner_seat) (is_some s.slot.seat)
+              (is_some s.result.seat) woke _ sits e;
         })
 
     -- its handle answers
-    answers_goes : (answer : Answer) (next : JobAction) → is_answer next answer ≡ true → next_of_job of acts ≡ next → At s of (bound bytes of) began shut over gone took written acts js ps ss next
-        → PlaceBy s.result of (Answered answer ∷ acts) came rs → Tied s of (Answered answer ∷ acts) js ps ss
+    answers_goes : (answer : Answer) (next : JobAction)
+        → is_answer next answer ≡ true → next_of_job of acts ≡ next
+        → At s of (bound bytes of) began shut over gone took written acts js ps ss next
+        → PlaceBy s.result of (Answered answer ∷ acts) came rs
+        → Tied s of (Answered answer ∷ acts) js ps ss
         → Goes (owner_by_parts bytes client asked here (Some s)) cut (event (Answered answer))
     answers_goes answer next fits is here_now place session =
-        let result = subst (λ b. ResultAs s.slot.content (has_finished acts) (has_given_up acts) b over gone (fault of acts)) (asking_goes next answer fits) here_now.result in
-        let lent = (going s.slot.content (has_finished acts) (has_given_up acts) over gone (fault of acts) result).lent in
+        let result = subst (λ b. ResultAs s.slot.content (has_finished acts) (has_given_up acts) b
+        over gone (fault of acts)) (asking_goes next answer fits) here_now.result in
+        let lent = (going s.slot.content (has_finished acts) (has_given_up acts) over gone
+        (fault of acts) result).lent in
         keeps_all of same (Answered answer) s.pipe s.result s.slot s.left among (record {
-          own_is = record { pool = refl; nothing = refl; ends = tt; back = λ here before. refl; faults = λ is. absurd (cc) };
+          own_is = record {
+            pool = refl;
+            nothing = refl;
+            ends = tt;
+            back = λ here before. refl;
+            faults = λ is. absurd (cc);
+          };
           lawful = lawful_at next (Answered answer) is (answers_it cut next answer fits);
           session = session;
           place = place;
@@ -298,63 +464,125 @@ module _ (bytes client : ℕ) (asked : Option HandleCall) (here : OwnerStage) (s
         })
 
   -- what is handed in finds what the law says
-  handed_in : (n : ℕ) → hand_in n (room s.pipe) s.pipe.is_owner_open s.pipe.owner_seat ≡ hand_in n (room_in cut) (not shut) (seated ps)
+  handed_in : (n : ℕ) → hand_in n (room s.pipe) s.pipe.is_owner_open s.pipe.owner_seat
+      ≡ hand_in n (room_in cut) (not shut) (seated ps)
   handed_in n =
-      ap (λ m. hand_in n m s.pipe.is_owner_open s.pipe.owner_seat) (sym (room_is s (bound bytes) cut t.last t.bytes))
-      ∙ ap (λ b. hand_in n (room_in cut) b s.pipe.owner_seat) (sym (open_is s (bound bytes) cut t.last))
-      ∙ ap (λ seat. hand_in n (room_in cut) (not shut) seat) (seated_is s.pipe.owner_seat ∙ ap seated (sym t.last.seats.owner))
+      ap (λ m. hand_in n m s.pipe.is_owner_open s.pipe.owner_seat)
+      (sym (room_is s (bound bytes) cut t.last t.bytes))
+      ∙ ap (λ b. hand_in n (room_in cut) b s.pipe.owner_seat)
+      (sym (open_is s (bound bytes) cut t.last))
+      ∙ ap (λ seat. hand_in n (room_in cut) (not shut) seat)
+      (seated_is s.pipe.owner_seat ∙ ap seated (sym t.last.seats.owner))
 
   -- ---- the acts of a job that reads, at the session
 
   abbrev Reads : Work Progress → Type 0
   Reads work = WorksOn Progress work
 
-  module _ (p : Progress) (r : ReadAs p acts) (reads : kind ≡ Reading) (among : is_in s.number.serial (jobs_of (own cut)) ≡ true) where
-    table : (now : ReadAction) → read_next p.core ≡ now → (now ≡ ReadAction.Deliver → ⊥) → next_but_wake Reading acts ≡ action_as p.piece now
+  module _ (p : Progress) (r : ReadAs p acts) (reads : kind ≡ Reading)
+      (among : is_in s.number.serial (jobs_of (own cut)) ≡ true) where
+    table : (now : ReadAction) → read_next p.core ≡ now → (now ≡ ReadAction.Deliver → ⊥)
+        → next_but_wake Reading acts ≡ action_as p.piece now
     table now is other = sym r.next ∙ ap (action_as p.piece) (awake p now is other).next_is
 
-    next_is : (now : ReadAction) → read_next p.core ≡ now → next_of_job Reading acts ≡ action_as p.piece now
+    next_is : (now : ReadAction) → read_next p.core ≡ now
+        → next_of_job Reading acts ≡ action_as p.piece now
     next_is now is = sym (action_is p acts r) ∙ ap (action_as p.piece) is
 
     -- it looks for room
     room_found : found_room s ≡ find_room (room_in cut) (not shut)
     room_found =
-        ap (λ n. find_room n s.pipe.is_owner_open) (sym (room_is s (bound bytes) cut t.last t.bytes))
+        ap (λ n. find_room n s.pipe.is_owner_open)
+        (sym (room_is s (bound bytes) cut t.last t.bytes))
         ∙ ap (λ b. find_room (room_in cut) b) (sym (open_is s (bound bytes) cut t.last))
 
-    pub room_works : read_next p.core ≡ ReadAction.FindRoom → (met : Met ℕ) → found_room s ≡ met → Reads (work_at_room met p s)
-    room_works is (Served zero) found = absurd (let some = (some_room (room s.pipe) 0 s.pipe.is_owner_open found).1 in omega arith)
+    pub room_works : read_next p.core ≡ ReadAction.FindRoom → (met : Met ℕ) → found_room s ≡ met
+        → Reads (work_at_room met p s)
+    room_works is (Served zero) found =
+        absurd (let some = (some_room (room s.pipe) 0 s.pipe.is_owner_open found).1 in omega arith)
     room_works is (Served (suc n)) found =
-        stays_goes Reading reads among refl (RoomFree (suc n)) s.pipe.job_seat (record { pool = refl; nothing = refl; ends = tt; back = λ here before. refl; faults = λ is any. (refl, refl) }) (refl, refl)
-        (lawful_at Reading reads among FindRoom (RoomFree (suc n)) (next_is ReadAction.FindRoom is) (ap seen_room (sym found ∙ room_found)))
-        (finds s (bound bytes Reading) began shut over gone took written acts js ps ss (suc n) found (tied Reading reads among FindRoom (table ReadAction.FindRoom is (λ e. cc))))
+        stays_goes Reading reads among refl (RoomFree (suc n)) s.pipe.job_seat
+        (record {
+          pool = refl;
+          nothing = refl;
+          ends = tt;
+          back = λ here before. refl;
+          faults = λ is any. (refl, refl);
+        }) (refl, refl)
+        (lawful_at Reading reads among FindRoom (RoomFree (suc n)) (next_is ReadAction.FindRoom is)
+        (ap seen_room (sym found ∙ room_found)))
+        (finds s (bound bytes Reading) began shut over gone took written acts js ps ss (suc n) found
+        (tied Reading reads among FindRoom (table ReadAction.FindRoom is (λ e. cc))))
     room_works is Waiting found =
-        stays_goes Reading reads among refl JobParked (Some s.number) (record { pool = refl; nothing = refl; ends = tt; back = λ here before. refl; faults = λ is any. (refl, refl) }) (refl, refl)
-        (lawful_at Reading reads among FindRoom JobParked (next_is ReadAction.FindRoom is) (ap seen_room (sym found ∙ room_found)))
-        (parks s (bound bytes Reading) began shut over gone took written acts js ps ss found (table ReadAction.FindRoom is (λ e. cc)) (last_as Reading reads))
+        stays_goes Reading reads among refl JobParked (Some s.number)
+        (record {
+          pool = refl;
+          nothing = refl;
+          ends = tt;
+          back = λ here before. refl;
+          faults = λ is any. (refl, refl);
+        }) (refl, refl)
+        (lawful_at Reading reads among FindRoom JobParked (next_is ReadAction.FindRoom is)
+        (ap seen_room (sym found ∙ room_found)))
+        (parks s (bound bytes Reading) began shut over gone took written acts js ps ss found
+        (table ReadAction.FindRoom is (λ e. cc)) (last_as Reading reads))
     room_works is Closed found =
-        stays_goes Reading reads among refl RoomShut s.pipe.job_seat (record { pool = refl; nothing = refl; ends = tt; back = λ here before. refl; faults = λ is any. (refl, refl) }) (refl, refl)
-        (lawful_at Reading reads among FindRoom RoomShut (next_is ReadAction.FindRoom is) (ap seen_room (sym found ∙ room_found)))
-        (finds_shut s (bound bytes Reading) began shut over gone took written acts js ps ss found (tied Reading reads among FindRoom (table ReadAction.FindRoom is (λ e. cc))))
+        stays_goes Reading reads among refl RoomShut s.pipe.job_seat
+        (record {
+          pool = refl;
+          nothing = refl;
+          ends = tt;
+          back = λ here before. refl;
+          faults = λ is any. (refl, refl);
+        }) (refl, refl)
+        (lawful_at Reading reads among FindRoom RoomShut (next_is ReadAction.FindRoom is)
+        (ap seen_room (sym found ∙ room_found)))
+        (finds_shut s (bound bytes Reading) began shut over gone took written acts js ps ss found
+        (tied Reading reads among FindRoom (table ReadAction.FindRoom is (λ e. cc))))
 
     -- it puts bytes, which fit
     put_found : found_put p.piece s ≡ hand_in (length p.piece) (room_in cut) (not shut) (seated ps)
     put_found = handed_in (length p.piece)
 
-    pub put_works : (count : ℕ) → read_next p.core ≡ ReadAction.Put count → fits_in p.piece s ≡ true → (met : Met (Option (Unit {0}))) → found_put p.piece s ≡ met → Reads (work_at_put met p s)
-    put_works count is fits Waiting found = absurd (no_wait (length p.piece) (room s.pipe) s.pipe.is_owner_open s.pipe.owner_seat fits found)
+    pub put_works : (count : ℕ) → read_next p.core ≡ ReadAction.Put count → fits_in p.piece s ≡ true
+        → (met : Met (Option (Unit {0}))) → found_put p.piece s ≡ met → Reads (work_at_put met p s)
+    put_works count is fits Waiting found = absurd
+        (no_wait (length p.piece) (room s.pipe) s.pipe.is_owner_open s.pipe.owner_seat fits found)
     put_works count is fits (Served seat) found =
-        let now = tied Reading reads among (PutPiece p.piece) (table (ReadAction.Put count) is (λ e. cc)) in
-        let took_it = (put_is (length p.piece) (room s.pipe) s.pipe.is_owner_open s.pipe.owner_seat seat found).0 in
+        let now = tied Reading reads among (PutPiece p.piece)
+        (table (ReadAction.Put count) is (λ e. cc)) in
+        let took_it = (put_is (length p.piece) (room s.pipe) s.pipe.is_owner_open s.pipe.owner_seat
+        seat found).0 in
         let act = Put (length p.piece) (waker_in (is_some seat)) in
-        pipe_goes Reading reads among refl act (record s.pipe { items = s.pipe.items ++ p.piece; owner_seat = None }) (record { pool = refl; nothing = refl; ends = tt; back = λ here before. refl; faults = λ is any. (refl, refl) }) (refl, refl)
-        (lawful_at Reading reads among (PutPiece p.piece) act (next_is (ReadAction.Put count) is) (ap (seen_put (length p.piece)) (sym found ∙ put_found)))
-        (puts s (bound bytes Reading) began shut over gone took written acts js ps ss p.piece (waker_in (is_some seat)) seat found now) now.flow.passed_is.0 (takes_it (is_some seat) ∙ ap is_some took_it)
+        pipe_goes Reading reads among
+        refl act (record s.pipe { items = s.pipe.items ++ p.piece; owner_seat = None })
+        (record {
+          pool = refl;
+          nothing = refl;
+          ends = tt;
+          back = λ here before. refl;
+          faults = λ is any. (refl, refl);
+        }) (refl, refl)
+        (lawful_at Reading reads among (PutPiece p.piece) act (next_is (ReadAction.Put count) is)
+        (ap (seen_put (length p.piece)) (sym found ∙ put_found)))
+        (puts s (bound bytes Reading) began shut over gone took written
+        acts js ps ss p.piece (waker_in (is_some seat)) seat found now) now.flow.passed_is.0
+        (takes_it (is_some seat) ∙ ap is_some took_it)
     put_works count is fits Closed found =
         let act = Lost (length p.piece) in
-        stays_goes Reading reads among refl act s.pipe.job_seat (record { pool = refl; nothing = refl; ends = tt; back = λ here before. refl; faults = λ is any. (refl, refl) }) (refl, refl)
-        (lawful_at Reading reads among (PutPiece p.piece) act (next_is (ReadAction.Put count) is) (ap (seen_put (length p.piece)) (sym found ∙ put_found)))
-        (loses s (bound bytes Reading) began shut over gone took written acts js ps ss p.piece found (tied Reading reads among (PutPiece p.piece) (table (ReadAction.Put count) is (λ e. cc))))
+        stays_goes Reading reads among refl act s.pipe.job_seat
+        (record {
+          pool = refl;
+          nothing = refl;
+          ends = tt;
+          back = λ here before. refl;
+          faults = λ is any. (refl, refl);
+        }) (refl, refl)
+        (lawful_at Reading reads among (PutPiece p.piece) act (next_is (ReadAction.Put count) is)
+        (ap (seen_put (length p.piece)) (sym found ∙ put_found)))
+        (loses s (bound bytes Reading) began shut over gone
+        took written acts js ps ss p.piece found (tied Reading reads among (PutPiece p.piece)
+        (table (ReadAction.Put count) is (λ e. cc))))
 
     -- it closes its end of the pipe
     pub close_works : read_next p.core ≡ ReadAction.Close → Reads (work_of_close p s)
@@ -366,27 +594,38 @@ module _ (bytes client : ℕ) (asked : Option HandleCall) (here : OwnerStage) (s
     pub finish_works : read_next p.core ≡ ReadAction.Finish → Reads (work_of_finish p s)
     finish_works is =
         let now = tied Reading reads among Finish (table ReadAction.Finish is (λ e. cc)) in
-        finishes_goes Reading reads among p.fault s.left (next_is ReadAction.Finish is) now (λ waker. same_place Reading reads refl (Finished waker) refl refl)
-        (λ waker. finishes s Reading (bound bytes Reading) began shut over gone took written acts js ps ss waker p.fault r.fault_is tt now)
+        finishes_goes Reading reads among p.fault s.left (next_is ReadAction.Finish is) now
+        (λ waker. same_place Reading reads refl (Finished waker) refl refl)
+        (λ waker. finishes s Reading (bound bytes Reading) began shut over gone took written acts js
+        ps ss waker p.fault r.fault_is tt now)
 
     -- its reader answers
-    pub answer_goes : (answer : Answer) → is_answer (action_of p) answer ≡ true → Goes (owner_by_parts bytes client asked here (Some s)) cut (event (Answered answer))
+    pub answer_goes : (answer : Answer) → is_answer (action_of p) answer ≡ true
+        → Goes (owner_by_parts bytes client asked here (Some s)) cut (event (Answered answer))
     answer_goes answer is =
         let q = asks p acts answer r is in
-        let next = next_by acts ∙ ap (λ b. job_wake_first b (next_but_wake Reading acts)) (sym r.waking ∙ q.a.waking) ∙ q.table in
-        answers_goes Reading reads among answer (AskBytes q.most) q.fits next (tied Reading reads among (AskBytes q.most) q.table) (same_place Reading reads refl (Answered answer) refl refl)
-        (Sessions.answers s (bound bytes Reading) began shut over gone took written acts js ps ss q.most answer q.fits q.table (last_as Reading reads))
+        let next = next_by acts ∙ ap (λ b. job_wake_first b (next_but_wake Reading acts))
+        (sym r.waking ∙ q.a.waking) ∙ q.table in
+        answers_goes Reading reads among answer
+        (AskBytes q.most) q.fits next (tied Reading reads among (AskBytes q.most) q.table)
+        (same_place Reading reads refl (Answered answer) refl refl)
+        (Sessions.answers s (bound bytes Reading) began shut over gone took written acts js ps ss
+        q.most answer q.fits q.table (last_as Reading reads))
 
   -- ---- the acts of a job that writes, at the session
 
   abbrev Writes : Work WriteProgress → Type 0
   Writes work = WorksOn WriteProgress work
 
-  module _ (p : WriteProgress) (r : WriteAs p acts) (writing : kind ≡ Writing) (among : is_in s.number.serial (jobs_of (own cut)) ≡ true) where
-    writer_table : (now : WriteAction) → write_next p.core ≡ now → (now ≡ WriteAction.Deliver → ⊥) → next_but_wake Writing acts ≡ write_action_as p.piece now
-    writer_table now is other = sym r.next ∙ ap (write_action_as p.piece) (of_writer.awake p now is other).next_is
+  module _ (p : WriteProgress) (r : WriteAs p acts) (writing : kind ≡ Writing)
+      (among : is_in s.number.serial (jobs_of (own cut)) ≡ true) where
+    writer_table : (now : WriteAction) → write_next p.core ≡ now → (now ≡ WriteAction.Deliver → ⊥)
+        → next_but_wake Writing acts ≡ write_action_as p.piece now
+    writer_table now is other =
+        sym r.next ∙ ap (write_action_as p.piece) (of_writer.awake p now is other).next_is
 
-    writer_next : (now : WriteAction) → write_next p.core ≡ now → next_of_job Writing acts ≡ write_action_as p.piece now
+    writer_next : (now : WriteAction) → write_next p.core ≡ now
+        → next_of_job Writing acts ≡ write_action_as p.piece now
     writer_next now is = sym (of_writer.action_is p acts r) ∙ ap (write_action_as p.piece) is
 
     -- it looks at the front of the pipe
@@ -395,142 +634,260 @@ module _ (bytes client : ℕ) (asked : Option HandleCall) (here : OwnerStage) (s
         ap (λ l. peek piece l s.pipe.is_owner_open) (sym (inside_is s (bound bytes) cut t.last))
         ∙ ap (λ b. peek piece (inside cut) b) (sym (open_is s (bound bytes) cut t.last))
 
-    pub peek_works : write_next p.core ≡ WriteAction.Peek → (met : Met (List ℕ)) → found_piece s ≡ met → Writes (work_at_peek met p s)
+    pub peek_works : write_next p.core ≡ WriteAction.Peek → (met : Met (List ℕ))
+        → found_piece s ≡ met → Writes (work_at_peek met p s)
     peek_works is (Served found) shows =
-        stays_goes Writing writing among refl (Peeked found) s.pipe.job_seat (record { pool = refl; nothing = refl; ends = tt; back = λ here before. refl; faults = λ is any. (refl, refl) }) (refl, refl)
-        (lawful_at Writing writing among Peek (Peeked found) (writer_next WriteAction.Peek is) (ap seen_peek (sym shows ∙ piece_found)))
-        (peeks s (bound bytes Writing) began shut over gone took written acts js ps ss found shows (tied Writing writing among Peek (writer_table WriteAction.Peek is (λ e. cc))))
+        stays_goes Writing writing among refl (Peeked found) s.pipe.job_seat
+        (record {
+          pool = refl;
+          nothing = refl;
+          ends = tt;
+          back = λ here before. refl;
+          faults = λ is any. (refl, refl);
+        }) (refl, refl)
+        (lawful_at Writing writing among Peek (Peeked found) (writer_next WriteAction.Peek is)
+        (ap seen_peek (sym shows ∙ piece_found)))
+        (peeks s (bound bytes Writing) began shut over gone took written acts js ps ss found shows
+        (tied Writing writing among Peek (writer_table WriteAction.Peek is (λ e. cc))))
     peek_works is Waiting shows =
-        stays_goes Writing writing among refl JobParked (Some s.number) (record { pool = refl; nothing = refl; ends = tt; back = λ here before. refl; faults = λ is any. (refl, refl) }) (refl, refl)
-        (lawful_at Writing writing among Peek JobParked (writer_next WriteAction.Peek is) (ap seen_peek (sym shows ∙ piece_found)))
-        (peek_parks s (bound bytes Writing) began shut over gone took written acts js ps ss shows (writer_table WriteAction.Peek is (λ e. cc)) (last_as Writing writing))
+        stays_goes Writing writing among refl JobParked (Some s.number)
+        (record {
+          pool = refl;
+          nothing = refl;
+          ends = tt;
+          back = λ here before. refl;
+          faults = λ is any. (refl, refl);
+        }) (refl, refl)
+        (lawful_at Writing writing among Peek JobParked (writer_next WriteAction.Peek is)
+        (ap seen_peek (sym shows ∙ piece_found)))
+        (peek_parks s (bound bytes Writing) began shut over gone took written acts js ps ss shows
+        (writer_table WriteAction.Peek is (λ e. cc)) (last_as Writing writing))
     peek_works is Closed shows =
-        stays_goes Writing writing among refl Drained s.pipe.job_seat (record { pool = refl; nothing = refl; ends = tt; back = λ here before. refl; faults = λ is any. (refl, refl) }) (refl, refl)
-        (lawful_at Writing writing among Peek Drained (writer_next WriteAction.Peek is) (ap seen_peek (sym shows ∙ piece_found)))
-        (drains s (bound bytes Writing) began shut over gone took written acts js ps ss shows (tied Writing writing among Peek (writer_table WriteAction.Peek is (λ e. cc))))
+        stays_goes Writing writing among refl Drained s.pipe.job_seat
+        (record {
+          pool = refl;
+          nothing = refl;
+          ends = tt;
+          back = λ here before. refl;
+          faults = λ is any. (refl, refl);
+        }) (refl, refl)
+        (lawful_at Writing writing among Peek Drained (writer_next WriteAction.Peek is)
+        (ap seen_peek (sym shows ∙ piece_found)))
+        (drains s (bound bytes Writing) began shut over gone took written acts js ps ss shows
+        (tied Writing writing among Peek (writer_table WriteAction.Peek is (λ e. cc))))
 
     -- what its writer took leaves the pipe
-    pub consume_works : (n : ℕ) → write_next p.core ≡ WriteAction.Consume n → Writes (work_of_consume n p s)
+    pub consume_works : (n : ℕ) → write_next p.core ≡ WriteAction.Consume n
+        → Writes (work_of_consume n p s)
     consume_works n is =
-        let now = tied Writing writing among (Consume n) (writer_table (WriteAction.Consume n) is (λ e. cc)) in
+        let now = tied Writing writing among (Consume n)
+        (writer_table (WriteAction.Consume n) is (λ e. cc)) in
         let act = TakenOut n (waker_in (is_some s.pipe.owner_seat)) in
-        pipe_goes Writing writing among refl act (record s.pipe { items = drop n s.pipe.items; owner_seat = None }) (record { pool = refl; nothing = refl; ends = tt; back = λ here before. refl; faults = λ is any. (refl, refl) }) (refl, refl)
-        (lawful_at Writing writing among (Consume n) act (writer_next (WriteAction.Consume n) is) (ap (λ b. TakenOut n (waker_in b)) (sym t.last.seats.owner)))
-        (consumes s (bound bytes Writing) began shut over gone took written acts js ps ss n (waker_in (is_some s.pipe.owner_seat)) now) now.flow.written_is.0 (takes_it (is_some s.pipe.owner_seat))
+        pipe_goes Writing writing
+        among refl act (record s.pipe { items = drop n s.pipe.items; owner_seat = None })
+        (record {
+          pool = refl;
+          nothing = refl;
+          ends = tt;
+          back = λ here before. refl;
+          faults = λ is any. (refl, refl);
+        }) (refl, refl)
+        (lawful_at Writing writing among (Consume n) act (writer_next (WriteAction.Consume n) is)
+        (ap (λ b. TakenOut n (waker_in b)) (sym t.last.seats.owner)))
+        (consumes s (bound bytes Writing) began shut over gone took written
+        acts js ps ss n (waker_in (is_some s.pipe.owner_seat)) now) now.flow.written_is.0
+        (takes_it (is_some s.pipe.owner_seat))
 
     -- it closes its end of the pipe
     pub writer_close_works : write_next p.core ≡ WriteAction.Close → Writes (writer_closes p s)
     writer_close_works is =
-        let now = tied Writing writing among CloseEnd (writer_table WriteAction.Close is (λ e. cc)) in
-        closes_goes Writing writing among refl (writer_next WriteAction.Close is) now.flow.written_is.0 now
+        let now =
+        tied Writing writing among CloseEnd (writer_table WriteAction.Close is (λ e. cc)) in
+        closes_goes Writing writing among refl (writer_next WriteAction.Close is)
+        now.flow.written_is.0 now
 
     -- it puts its result
     pub writer_finish_works : write_next p.core ≡ WriteAction.Finish → Writes (writer_finishes p s)
     writer_finish_works is =
-        let now = tied Writing writing among Finish (writer_table WriteAction.Finish is (λ e. cc)) in
-        finishes_goes Writing writing among (write_fault_of p.core) s.left (writer_next WriteAction.Finish is) now (λ waker. same_place Writing writing refl (Finished waker) refl refl)
-        (λ waker. finishes s Writing (bound bytes Writing) began shut over gone took written acts js ps ss waker (write_fault_of p.core) r.fault_is tt now)
+        let now =
+        tied Writing writing among Finish (writer_table WriteAction.Finish is (λ e. cc)) in
+        finishes_goes Writing
+        writing among (write_fault_of p.core) s.left (writer_next WriteAction.Finish is) now
+        (λ waker. same_place Writing writing refl (Finished waker) refl refl)
+        (λ waker. finishes s Writing (bound bytes Writing) began shut over gone took written acts js
+        ps ss waker (write_fault_of p.core) r.fault_is tt now)
 
     -- its writer answers
-    pub writer_answer_goes : (answer : Answer) → is_answer (write_action_of p) answer ≡ true → Goes (owner_by_parts bytes client asked here (Some s)) cut (event (Answered answer))
+    pub writer_answer_goes : (answer : Answer) → is_answer (write_action_of p) answer ≡ true
+        → Goes (owner_by_parts bytes client asked here (Some s)) cut (event (Answered answer))
     writer_answer_goes answer is =
         let q = of_writer.asks p acts answer r is in
-        let next = of_writer.next_by acts ∙ ap (λ b. job_wake_first b (next_but_wake Writing acts)) (sym r.waking ∙ q.a.waking) ∙ q.table in
+        let next = of_writer.next_by acts ∙ ap (λ b. job_wake_first b (next_but_wake Writing acts))
+        (sym r.waking ∙ q.a.waking) ∙ q.table in
         let asks_now = write_action_as p.piece q.now in
-        answers_goes Writing writing among answer asks_now q.fits next (tied Writing writing among asks_now q.table) (same_place Writing writing refl (Answered answer) refl refl)
-        (writer_answers s (bound bytes Writing) began shut over gone took written acts js ps ss asks_now answer q.fits q.table (last_as Writing writing))
+        answers_goes Writing
+        writing among answer asks_now q.fits next (tied Writing writing among asks_now q.table)
+        (same_place Writing writing refl (Answered answer) refl refl)
+        (writer_answers s (bound bytes Writing) began shut over gone took written acts js ps ss
+        asks_now answer q.fits q.table (last_as Writing writing))
 
   -- ---- the acts of a job that runs an iterator, at the session
 
   abbrev Streams : Work ItemProgress → Type 0
   Streams work = WorksOn ItemProgress work
 
-  module _ (p : ItemProgress) (r : ItemAs p acts) (streaming : kind ≡ Streaming) (among : is_in s.number.serial (jobs_of (own cut)) ≡ true) where
-    streamer_table : (now : ItemAction) → item_next p.core ≡ now → (now ≡ ItemAction.Deliver → ⊥) → next_but_wake Streaming acts ≡ item_action_as p.item now
-    streamer_table now is other = sym r.next ∙ ap (item_action_as p.item) (of_streamer.awake p now is other).next_is
+  module _ (p : ItemProgress) (r : ItemAs p acts) (streaming : kind ≡ Streaming)
+      (among : is_in s.number.serial (jobs_of (own cut)) ≡ true) where
+    streamer_table : (now : ItemAction) → item_next p.core ≡ now → (now ≡ ItemAction.Deliver → ⊥)
+        → next_but_wake Streaming acts ≡ item_action_as p.item now
+    streamer_table now is other =
+        sym r.next ∙ ap (item_action_as p.item) (of_streamer.awake p now is other).next_is
 
-    streamer_next : (now : ItemAction) → item_next p.core ≡ now → next_of_job Streaming acts ≡ item_action_as p.item now
+    streamer_next : (now : ItemAction) → item_next p.core ≡ now
+        → next_of_job Streaming acts ≡ item_action_as p.item now
     streamer_next now is = sym (of_streamer.action_is p acts r) ∙ ap (item_action_as p.item) is
 
     -- it sends its item
     send_found : found_send s ≡ hand_in 1 (room_in cut) (not shut) (seated ps)
     send_found = handed_in 1
 
-    pub send_works : item_next p.core ≡ ItemAction.Send → (met : Met (Option (Unit {0}))) → found_send s ≡ met → Streams (work_at_send met p s)
+    pub send_works : item_next p.core ≡ ItemAction.Send → (met : Met (Option (Unit {0})))
+        → found_send s ≡ met → Streams (work_at_send met p s)
     send_works is (Served seat) found =
-        let now = tied Streaming streaming among (SendItem p.item) (streamer_table ItemAction.Send is (λ e. cc)) in
-        let took_it = (put_is 1 (room s.pipe) s.pipe.is_owner_open s.pipe.owner_seat seat found).0 in
+        let now = tied Streaming streaming among (SendItem p.item)
+        (streamer_table ItemAction.Send is (λ e. cc)) in
+        let took_it =
+        (put_is 1 (room s.pipe) s.pipe.is_owner_open s.pipe.owner_seat seat found).0 in
         let act = Put 1 (waker_in (is_some seat)) in
-        pipe_goes Streaming streaming among refl act (record s.pipe { items = s.pipe.items ++ p.item ∷ []; owner_seat = None }) (record { pool = refl; nothing = refl; ends = tt; back = λ here before. refl; faults = λ is any. (refl, refl) }) (refl, refl)
-        (lawful_at Streaming streaming among (SendItem p.item) act (streamer_next ItemAction.Send is) (ap (seen_put 1) (sym found ∙ send_found)))
-        (sends s (bound bytes Streaming) began shut over gone took written acts js ps ss p.item (waker_in (is_some seat)) seat found now) now.flow.passed_is.0 (takes_it (is_some seat) ∙ ap is_some took_it)
+        pipe_goes Streaming streaming among
+        refl act (record s.pipe { items = s.pipe.items ++ p.item ∷ []; owner_seat = None })
+        (record {
+          pool = refl;
+          nothing = refl;
+          ends = tt;
+          back = λ here before. refl;
+          faults = λ is any. (refl, refl);
+        }) (refl, refl)
+        (lawful_at Streaming streaming among (SendItem p.item) act
+        (streamer_next ItemAction.Send is) (ap (seen_put 1) (sym found ∙ send_found)))
+        (sends s (bound bytes Streaming) began shut over gone took written
+        acts js ps ss p.item (waker_in (is_some seat)) seat found now) now.flow.passed_is.0
+        (takes_it (is_some seat) ∙ ap is_some took_it)
     send_works is Waiting found =
-        stays_goes Streaming streaming among refl JobParked (Some s.number) (record { pool = refl; nothing = refl; ends = tt; back = λ here before. refl; faults = λ is any. (refl, refl) }) (refl, refl)
-        (lawful_at Streaming streaming among (SendItem p.item) JobParked (streamer_next ItemAction.Send is) (ap (seen_put 1) (sym found ∙ send_found)))
-        (send_parks s (bound bytes Streaming) began shut over gone took written acts js ps ss p.item found (streamer_table ItemAction.Send is (λ e. cc)) (last_as Streaming streaming))
+        stays_goes Streaming streaming among refl JobParked (Some s.number)
+        (record {
+          pool = refl;
+          nothing = refl;
+          ends = tt;
+          back = λ here before. refl;
+          faults = λ is any. (refl, refl);
+        }) (refl, refl)
+        (lawful_at Streaming streaming among (SendItem p.item) JobParked
+        (streamer_next ItemAction.Send is) (ap (seen_put 1) (sym found ∙ send_found)))
+        (send_parks s (bound bytes Streaming) began shut over gone took written acts js ps ss p.item
+        found (streamer_table ItemAction.Send is (λ e. cc)) (last_as Streaming streaming))
     send_works is Closed found =
-        stays_goes Streaming streaming among refl (Lost 1) s.pipe.job_seat (record { pool = refl; nothing = refl; ends = tt; back = λ here before. refl; faults = λ is any. (refl, refl) }) (refl, refl)
-        (lawful_at Streaming streaming among (SendItem p.item) (Lost 1) (streamer_next ItemAction.Send is) (ap (seen_put 1) (sym found ∙ send_found)))
-        (send_loses s (bound bytes Streaming) began shut over gone took written acts js ps ss p.item found (tied Streaming streaming among (SendItem p.item) (streamer_table ItemAction.Send is (λ e. cc))))
+        stays_goes Streaming streaming among refl (Lost 1) s.pipe.job_seat
+        (record {
+          pool = refl;
+          nothing = refl;
+          ends = tt;
+          back = λ here before. refl;
+          faults = λ is any. (refl, refl);
+        }) (refl, refl)
+        (lawful_at Streaming streaming among (SendItem p.item) (Lost 1)
+        (streamer_next ItemAction.Send is) (ap (seen_put 1) (sym found ∙ send_found)))
+        (send_loses s (bound bytes Streaming) began shut over gone took
+        written acts js ps ss p.item found (tied Streaming streaming among (SendItem p.item)
+        (streamer_table ItemAction.Send is (λ e. cc))))
 
     -- it closes its end of the pipe
     pub streamer_close_works : item_next p.core ≡ ItemAction.Close → Streams (streamer_closes p s)
     streamer_close_works is =
-        let now = tied Streaming streaming among CloseEnd (streamer_table ItemAction.Close is (λ e. cc)) in
-        closes_goes Streaming streaming among refl (streamer_next ItemAction.Close is) now.flow.passed_is.0 now
+        let now = tied Streaming streaming among CloseEnd
+        (streamer_table ItemAction.Close is (λ e. cc)) in
+        closes_goes Streaming streaming among refl (streamer_next ItemAction.Close is)
+        now.flow.passed_is.0 now
 
     -- it puts its result
-    pub streamer_finish_works : item_next p.core ≡ ItemAction.Finish → Streams (streamer_finishes p s)
+    pub streamer_finish_works : item_next p.core ≡ ItemAction.Finish
+        → Streams (streamer_finishes p s)
     streamer_finish_works is =
-        let now = tied Streaming streaming among Finish (streamer_table ItemAction.Finish is (λ e. cc)) in
-        finishes_goes Streaming streaming among None s.left (streamer_next ItemAction.Finish is) now (λ waker. same_place Streaming streaming refl (Finished waker) refl refl)
-        (λ waker. finishes s Streaming (bound bytes Streaming) began shut over gone took written acts js ps ss waker None (sym r.fault_is) tt now)
+        let now =
+        tied Streaming streaming among Finish (streamer_table ItemAction.Finish is (λ e. cc)) in
+        finishes_goes Streaming streaming among None s.left (streamer_next ItemAction.Finish is) now
+        (λ waker. same_place Streaming streaming refl (Finished waker) refl refl)
+        (λ waker. finishes s Streaming (bound bytes Streaming) began shut over gone took written
+        acts js ps ss waker None (sym r.fault_is) tt now)
 
     -- its handle answers
-    pub item_answer_goes : (answer : Answer) → is_answer (item_action_of p) answer ≡ true → Goes (owner_by_parts bytes client asked here (Some s)) cut (event (Answered answer))
+    pub item_answer_goes : (answer : Answer) → is_answer (item_action_of p) answer ≡ true
+        → Goes (owner_by_parts bytes client asked here (Some s)) cut (event (Answered answer))
     item_answer_goes answer is =
         let q = of_streamer.asks p acts answer r is in
-        let next = of_streamer.next_by acts ∙ ap (λ b. job_wake_first b (next_but_wake Streaming acts)) (sym r.waking ∙ q.a.waking) ∙ q.table in
-        answers_goes Streaming streaming among answer AskItem q.fits next (tied Streaming streaming among AskItem q.table) (same_place Streaming streaming refl (Answered answer) refl refl)
-        (item_answers s (bound bytes Streaming) began shut over gone took written acts js ps ss answer q.fits q.table (last_as Streaming streaming))
+        let next = of_streamer.next_by acts
+        ∙ ap (λ b. job_wake_first b (next_but_wake Streaming acts)) (sym r.waking ∙ q.a.waking)
+        ∙ q.table in
+        answers_goes Streaming streaming among answer AskItem q.fits next
+        (tied Streaming streaming among AskItem q.table)
+        (same_place Streaming streaming refl (Answered answer) refl refl)
+        (item_answers s (bound bytes Streaming) began shut over gone took written acts js ps ss
+        answer q.fits q.table (last_as Streaming streaming))
 
   -- ---- the acts of a job that seeks, at the session
 
   abbrev Seeks : Work SeekProgress → Type 0
   Seeks work = WorksOn SeekProgress work
 
-  module _ (p : SeekProgress) (r : SeekAs p acts) (seeking : kind ≡ Seeking p.goal) (among : is_in s.number.serial (jobs_of (own cut)) ≡ true) where
+  module _ (p : SeekProgress) (r : SeekAs p acts) (seeking : kind ≡ Seeking p.goal)
+      (among : is_in s.number.serial (jobs_of (own cut)) ≡ true) where
     -- it puts its result
     pub seek_finish_works : seek_next p.core ≡ SeekAction.Finish → Seeks (seek_finishes p s)
     seek_finish_works is =
-        let now = tied (Seeking p.goal) seeking among Finish (sym r.next ∙ ap seek_action_as (of_seeker.awake p SeekAction.Finish is (λ e. cc)).next_is) in
-        finishes_goes (Seeking p.goal) seeking among p.fault p.place (sym (of_seeker.action_is p acts r) ∙ ap seek_action_as is) now (λ waker. same_place (Seeking p.goal) seeking refl (Finished waker) refl refl)
-        (λ waker. seek_puts s p.goal (bound bytes (Seeking p.goal)) began shut over gone took written acts js ps ss waker p.fault p.place r.fault_is r.place_is now)
+        let now = tied (Seeking p.goal) seeking among Finish (sym r.next
+        ∙ ap seek_action_as (of_seeker.awake p SeekAction.Finish is (λ e. cc)).next_is) in
+        finishes_goes (Seeking p.goal) seeking
+        among p.fault p.place (sym (of_seeker.action_is p acts r) ∙ ap seek_action_as is) now
+        (λ waker. same_place (Seeking p.goal) seeking refl (Finished waker) refl refl)
+        (λ waker. seek_puts s p.goal (bound bytes (Seeking p.goal)) began shut over gone took
+        written acts js ps ss waker p.fault p.place r.fault_is r.place_is now)
 
     -- its handle answers
-    pub seek_answer_goes : (answer : Answer) → is_answer (seek_action_of p) answer ≡ true → Goes (owner_by_parts bytes client asked here (Some s)) cut (event (Answered answer))
+    pub seek_answer_goes : (answer : Answer) → is_answer (seek_action_of p) answer ≡ true
+        → Goes (owner_by_parts bytes client asked here (Some s)) cut (event (Answered answer))
     seek_answer_goes answer is =
         let q = of_seeker.asks p acts answer r is in
         let now = tied (Seeking p.goal) seeking among AskSeek q.table in
-        let next = of_seeker.next_by p.goal acts ∙ ap (λ b. job_wake_first b (next_but_wake (Seeking p.goal) acts)) (sym r.waking ∙ q.a.waking) ∙ q.table in
-        answers_goes (Seeking p.goal) seeking among answer AskSeek q.fits next now (same_place (Seeking p.goal) seeking refl (Answered answer) refl refl)
-        (seek_answers s p.goal (bound bytes (Seeking p.goal)) began shut over gone took written acts js ps ss answer q.fits q.table now)
+        let next = of_seeker.next_by p.goal acts
+        ∙ ap (λ b. job_wake_first b (next_but_wake (Seeking p.goal) acts))
+        (sym r.waking ∙ q.a.waking) ∙ q.table in
+        answers_goes (Seeking p.goal) seeking among answer AskSeek q.fits next now
+        (same_place (Seeking p.goal) seeking refl (Answered answer) refl refl)
+        (seek_answers s p.goal (bound bytes (Seeking p.goal)) began shut over gone took written acts
+        js ps ss answer q.fits q.table now)
 
   -- ---- the acts of a job that runs an operation, at the session
 
   abbrev Operates : Work OpProgress → Type 0
   Operates work = WorksOn OpProgress work
 
-  module _ (p : OpProgress) (r : OperationAs p acts) (operating : kind ≡ Operating) (among : is_in s.number.serial (jobs_of (own cut)) ≡ true) where
+  module _ (p : OpProgress) (r : OperationAs p acts) (operating : kind ≡ Operating)
+      (among : is_in s.number.serial (jobs_of (own cut)) ≡ true) where
     -- the place of the result, by the job's next action
-    placed : (next : JobAction) → next_but_wake Operating acts ≡ next → PlaceAs s.result Operating next (has_given_up acts) (has_result acts) came (number acts) rs
+    placed : (next : JobAction) → next_but_wake Operating acts ≡ next → PlaceAs s.result Operating
+        next (has_given_up acts) (has_result acts) came (number acts) rs
     placed next e =
-        subst (λ a. PlaceAs s.result Operating a (has_given_up acts) (has_result acts) came (number acts) rs) e (subst (λ any. PlaceBy s.result any acts came rs) operating t.place)
+        subst (λ a. PlaceAs
+        s.result Operating a (has_given_up acts) (has_result acts) came (number acts) rs) e
+        (subst (λ any. PlaceBy s.result any acts came rs) operating t.place)
 
-    operation_table : (now : OpAction) → operation_next p.core ≡ now → (now ≡ OpAction.Deliver → ⊥) → next_but_wake Operating acts ≡ operation_action_as now
-    operation_table now is other = sym r.next ∙ ap operation_action_as (of_operator.awake p now is other).next_is
+    operation_table : (now : OpAction) → operation_next p.core ≡ now → (now ≡ OpAction.Deliver → ⊥)
+        → next_but_wake Operating acts ≡ operation_action_as now
+    operation_table now is other =
+        sym r.next ∙ ap operation_action_as (of_operator.awake p now is other).next_is
 
-    operation_is : (now : OpAction) → operation_next p.core ≡ now → next_of_job Operating acts ≡ operation_action_as now
+    operation_is : (now : OpAction) → operation_next p.core ≡ now
+        → next_of_job Operating acts ≡ operation_action_as now
     operation_is now is = sym (of_operator.action_is p acts r) ∙ ap operation_action_as is
 
     -- it puts the result
@@ -538,54 +895,94 @@ module _ (bytes client : ℕ) (asked : Option HandleCall) (here : OwnerStage) (s
     result_works is =
         let table = operation_table OpAction.PutResult is (λ e. cc) in
         let here_now = placed PutResult table in
-        let empty = results.unfilled s.result (has_given_up acts) (has_result acts) came (number acts) rs here_now in
+        let empty = results.unfilled s.result (has_given_up acts) (has_result acts) came
+        (number acts) rs here_now in
         let woke = result_wakes p.number s in
-        let sits : woke ≡ is_some s.result.seat = ap (λ c. is_some (answer_of c s.result.seat p.number).wake) empty in
+        let sits : woke ≡ is_some s.result.seat =
+        ap (λ c. is_some (answer_of c s.result.seat p.number).wake) empty in
         let act = ResultPut (waker_in woke) in
-        keeps_all Operating operating act s.pipe (after_put s.result p.number) s.slot s.left among (record {
-          own_is = record { pool = refl; nothing = refl; ends = tt; back = λ here before. refl; faults = λ is any. (refl, refl) };
-          place = results.filled s.result (has_given_up acts) (has_result acts) came (number acts) rs p.number r.number_is here_now;
-          lawful = lawful_at Operating operating among PutResult act (operation_is OpAction.PutResult is) (ap (λ b. ResultPut (waker_in b)) (sits ∙ sym here_now.seat));
-          session = result_puts s (bound bytes Operating) began shut over gone took written acts js ps ss (waker_in woke) (after_put s.result p.number) (tied Operating operating among PutResult table);
+        keeps_all Operating operating act s.pipe (after_put s.result p.number) s.slot s.left among
+        (record {
+          own_is = record {
+            pool = refl;
+            nothing = refl;
+            ends = tt;
+            back = λ here before. refl;
+            faults = λ is any. (refl, refl);
+          };
+          place = results.filled s.result (has_given_up acts) (has_result acts) came (number acts)
+              rs p.number r.number_is here_now;
+          lawful =
+              lawful_at Operating operating among PutResult act (operation_is OpAction.PutResult is)
+              (ap (λ b. ResultPut (waker_in b)) (sits ∙ sym here_now.seat));
+          session = result_puts s (bound bytes Operating) began shut
+              over gone took written acts js ps ss (waker_in woke) (after_put s.result p.number)
+              (tied Operating operating among PutResult table);
           ended = λ e. e;
-          told = λ e. taken_third (is_some s.pipe.owner_seat) (is_some s.slot.seat) (is_some s.result.seat) woke _ sits e;
+          told = λ e. taken_third (is_some s.pipe.owner_seat) (is_some s.slot.seat)
+              (is_some s.result.seat) woke _ sits e;
         })
 
     -- it puts its own result
-    pub operation_finish_works : operation_next p.core ≡ OpAction.Finish → Operates (operation_finishes p s)
+    pub operation_finish_works : operation_next p.core ≡ OpAction.Finish
+        → Operates (operation_finishes p s)
     operation_finish_works is =
         let table = operation_table OpAction.Finish is (λ e. cc) in
         let now = tied Operating operating among Finish table in
         finishes_goes Operating operating among None s.left (operation_is OpAction.Finish is) now
-        (λ waker. results.finished s.result (has_given_up acts) (has_result acts) came (number acts) rs (placed Finish table))
-        (λ waker. finishes s Operating (bound bytes Operating) began shut over gone took written acts js ps ss waker None (sym r.fault_is) tt now)
+        (λ waker. results.finished s.result (has_given_up acts) (has_result acts) came (number acts)
+        rs (placed Finish table))
+        (λ waker. finishes s Operating (bound bytes Operating) began shut over gone took written
+        acts js ps ss waker None (sym r.fault_is) tt now)
 
     -- its operation answers
-    pub operation_answer_goes : (answer : Answer) → is_answer (operation_action_of p) answer ≡ true → Goes (owner_by_parts bytes client asked here (Some s)) cut (event (Answered answer))
+    pub operation_answer_goes : (answer : Answer) → is_answer (operation_action_of p) answer ≡ true
+        → Goes (owner_by_parts bytes client asked here (Some s)) cut (event (Answered answer))
     operation_answer_goes answer is =
         let q = of_operator.asks p acts answer r is in
         let now = tied Operating operating among AskResult q.table in
-        let next = of_operator.next_by acts ∙ ap (λ b. job_wake_first b (next_but_wake Operating acts)) (sym r.waking ∙ q.a.waking) ∙ q.table in
+        let next = of_operator.next_by acts
+        ∙ ap (λ b. job_wake_first b (next_but_wake Operating acts)) (sym r.waking ∙ q.a.waking)
+        ∙ q.table in
         answers_goes Operating operating among answer AskResult q.fits next now
-        (subst (λ a. PlaceAs s.result Operating a (has_given_up acts) (has_result acts) came (number (Answered answer ∷ acts)) rs) (sym (ap (λ a. job_next_after_answer a answer) q.table))
-        (results.answered s.result (has_given_up acts) (has_result acts) came (number acts) rs (number (Answered answer ∷ acts)) (placed AskResult q.table)))
-        (operation_answers s (bound bytes Operating) began shut over gone took written acts js ps ss answer q.fits q.table now)
+        (subst (λ a. PlaceAs s.result Operating
+        a (has_given_up acts) (has_result acts) came (number (Answered answer ∷ acts)) rs)
+        (sym (ap (λ a. job_next_after_answer a answer) q.table))
+        (results.answered s.result (has_given_up acts) (has_result acts) came (number acts) rs
+        (number (Answered answer ∷ acts)) (placed AskResult q.table)))
+        (operation_answers s (bound bytes Operating) began shut over gone took written acts js ps ss
+        answer q.fits q.table now)
 
   -- ---- what any does
 
   -- it gives up
-  pub give_up_goes : is_in s.number.serial (jobs_of (own cut)) ≡ true → is_over (next_but_wake kind acts) ≡ false → gone ≡ true
-      → Goes (owner_by_parts bytes client asked here (Some (session_after_give_up s))) cut (event (GaveUp (waker_in (give_up_wakes s))))
+  pub give_up_goes : is_in s.number.serial (jobs_of (own cut)) ≡ true
+      → is_over (next_but_wake kind acts) ≡ false → gone ≡ true
+      → Goes (owner_by_parts bytes client asked here (Some (session_after_give_up s))) cut
+      (event (GaveUp (waker_in (give_up_wakes s))))
   give_up_goes among goes dropped =
-      let result = subst (λ b. ResultAs s.slot.content (has_finished acts) (has_given_up acts) b over gone (fault kind acts)) goes t.last.result in
-      let empty = (going s.slot.content (has_finished acts) (has_given_up acts) over gone (fault kind acts) result).empty in
+      let result = subst (λ b. ResultAs s.slot.content (has_finished acts) (has_given_up acts) b
+      over gone (fault kind acts)) goes t.last.result in
+      let empty = (going s.slot.content (has_finished acts) (has_given_up acts) over gone
+      (fault kind acts) result).empty in
       let woke = give_up_wakes s in
-      let sits : woke ≡ is_some s.slot.seat = ap (λ c. is_some (waker_out_of c s.slot.seat)) empty in
-      keeps_all kind refl (GaveUp (waker_in woke)) s.pipe s.result (slot_without_job s.slot.content s.slot.seat) s.left among (record {
-        own_is = record { pool = refl; nothing = refl; ends = tt; back = λ here before. refl; faults = λ is any. (refl, refl) };
+      let sits : woke ≡ is_some s.slot.seat =
+      ap (λ c. is_some (waker_out_of c s.slot.seat)) empty in
+      keeps_all kind refl (GaveUp (waker_in woke)) s.pipe s.result
+      (slot_without_job s.slot.content s.slot.seat) s.left among (record {
+        own_is = record {
+          pool = refl;
+          nothing = refl;
+          ends = tt;
+          back = λ here before. refl;
+          faults = λ is any. (refl, refl);
+        };
         lawful = (dropped, goes, ap waker_in (sits ∙ sym t.last.seats.slot));
-        place = results.given_up s.result (has_given_up acts) (has_result acts) came (number acts) rs kind (next_but_wake kind acts) t.place;
-        session = gives_up s kind (bound bytes kind) began shut over gone took written acts js ps ss (waker_in woke) goes dropped t.last;
+        place = results.given_up s.result (has_given_up acts) (has_result acts) came (number acts)
+            rs kind (next_but_wake kind acts) t.place;
+        session = gives_up s kind (bound bytes kind) began shut over gone took written acts js ps ss
+            (waker_in woke) goes dropped t.last;
         ended = λ e. e;
-        told = λ e. taken_second (is_some s.pipe.owner_seat) (is_some s.slot.seat) (is_some s.result.seat) woke _ sits e;
+        told = λ e. taken_second (is_some s.pipe.owner_seat) (is_some s.slot.seat)
+            (is_some s.result.seat) woke _ sits e;
       })

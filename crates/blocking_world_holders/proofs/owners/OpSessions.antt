@@ -1,13 +1,21 @@
--- The session of an owner that operates, after each act of its job, and once its owner looked for the result.
+-- The session of an owner that operates, after each act of its job, and once its owner looked for
+-- the result.
 use Rattle.std.proofs.Common.{◌≡◌, ℕ, List, ◌∷◌, Bool, true, refl, ap, Option}
-use Rattle.blocking_world_holders.proofs.Types.{Act, Answered, ResultPut, HolderWaker, Answer, Number}
-use Rattle.blocking_world_holders.proofs.Words.{Slot, AskResult, Operating, PutResult, fault, has_closed, has_finished, has_given_up, is_answer, job_next_after_answer as next_after_answer, next_but_wake, gave, peeked, taken, SeenSession, PlainFlow, SessionAs, Session}
+use Rattle.blocking_world_holders.proofs.Types.{Act, Answered, ResultPut, HolderWaker, Answer}
+use Rattle.blocking_world_holders.proofs.Types.{Number}
+use Rattle.blocking_world_holders.proofs.Words.{Slot, AskResult, Operating, PutResult, fault}
+use Rattle.blocking_world_holders.proofs.Words.{has_closed, has_finished, has_given_up, is_answer}
+use Rattle.blocking_world_holders.proofs.Words.{job_next_after_answer as next_after_answer}
+use Rattle.blocking_world_holders.proofs.Words.{next_but_wake, gave, peeked, taken, SeenSession}
+use Rattle.blocking_world_holders.proofs.Words.{PlainFlow, SessionAs, Session}
 use Rattle.blocking_world_holders.proofs.owners.ReadSessions.{At, tied_at, unseated, going, still}
 use Rattle.blocking_world_holders.proofs.owners.SeekSessions.{plain_answer, counts_none}
 
 -- nothing went through the pipe, whatever is kept, and whatever stands in the place of the result
-plain_with : (s : Session) (kept : ℕ) (result : Slot ℕ (Unit {0})) (took accepted : List ℕ) (closed : Bool) (given found written : List ℕ)
-    → PlainFlow s took accepted closed given found written → PlainFlow (record s { item = kept; result = result }) took accepted closed given found written
+plain_with : (s : Session) (kept : ℕ) (result : Slot ℕ (Unit {0})) (took accepted : List ℕ)
+    (closed : Bool) (given found written : List ℕ)
+    → PlainFlow s took accepted closed given found written
+    → PlainFlow (record s { item = kept; result = result }) took accepted closed given found written
 plain_with s kept result took accepted closed given found written t = record {
   closed_is = t.closed_is;
   inside = t.inside;
@@ -19,16 +27,26 @@ plain_with s kept result took accepted closed given found written t = record {
   unwritten = t.unwritten;
 }
 
-module _ (s : Session) (capacity : ℕ) (last : Option SeenSession) (shut back dropped : Bool) (took accepted : List ℕ) (acts : List Act) (js ps ss : Bool) where
+module _ (s : Session) (capacity : ℕ) (last : Option SeenSession) (shut back dropped : Bool)
+    (took accepted : List ℕ) (acts : List Act) (js ps ss : Bool) where
   abbrev Tied : Session → List Act → Type 0
   Tied now l = SessionAs now Operating capacity last shut back dropped took accepted l js ps ss
 
   -- whatever is kept, and whatever stands in the place of the result
-  pub kept_with : (kept : ℕ) (result : Slot ℕ (Unit {0})) → Tied s acts → Tied (record s { item = kept; result = result }) acts
+  pub kept_with : (kept : ℕ) (result : Slot ℕ (Unit {0})) → Tied s acts
+      → Tied (record s { item = kept; result = result }) acts
   kept_with kept result t = record {
-    lent = record { begun = t.lent.begun; goods = t.lent.goods; some = t.lent.some; holds = t.lent.holds; within = t.lent.within; shut_is = t.lent.shut_is };
+    lent = record {
+      begun = t.lent.begun;
+      goods = t.lent.goods;
+      some = t.lent.some;
+      holds = t.lent.holds;
+      within = t.lent.within;
+      shut_is = t.lent.shut_is;
+    };
     flow = record {
-      plain = plain_with s kept result took accepted (has_closed acts) (gave acts) (peeked acts) (taken acts) t.flow.plain;
+      plain = plain_with s kept result took accepted (has_closed acts) (gave acts) (peeked acts)
+          (taken acts) t.flow.plain;
       next_is = t.flow.next_is;
     };
     result = t.result;
@@ -36,34 +54,54 @@ module _ (s : Session) (capacity : ℕ) (last : Option SeenSession) (shut back d
       job = t.seats.job;
       owner = t.seats.owner;
       slot = t.seats.slot;
-      reason = record { job = t.seats.reason.job; owner = t.seats.reason.owner; slot = t.seats.reason.slot };
+      reason = record {
+        job = t.seats.reason.job;
+        owner = t.seats.reason.owner;
+        slot = t.seats.reason.slot;
+      };
     };
   }
 
   -- its operation gives a number
-  pub operation_answers : (answer : Answer) → is_answer AskResult answer ≡ true → next_but_wake Operating acts ≡ AskResult
-      → At s Operating capacity last shut back dropped took accepted acts js ps ss AskResult → Tied s (Answered answer ∷ acts)
+  pub operation_answers : (answer : Answer) → is_answer AskResult answer ≡ true
+      → next_but_wake Operating acts ≡ AskResult
+      → At s Operating capacity last shut back dropped took accepted acts js ps ss AskResult
+      → Tied s (Answered answer ∷ acts)
   operation_answers (Number n) fits e t =
-      let on = going s.slot.content (has_finished acts) (has_given_up acts) back dropped (fault Operating acts) t.result in
-      tied_at s Operating capacity last shut back dropped took accepted (Answered (Number n) ∷ acts) js ps ss PutResult (ap (λ next. next_after_answer next (Number n)) e)
+      let on = going s.slot.content (has_finished acts) (has_given_up acts) back dropped
+      (fault Operating acts) t.result in
+      tied_at s Operating capacity last shut back dropped took accepted (Answered (Number n) ∷ acts)
+      js ps ss PutResult (ap (λ next. next_after_answer next (Number n)) e)
       (record {
         lent = t.lent;
         flow = record {
-          plain = plain_answer s took accepted acts (Number n) refl (counts_none (Number n)) t.flow.plain;
+          plain = plain_answer s took accepted acts (Number n) refl (counts_none (Number n))
+              t.flow.plain;
           next_is = tt;
         };
-        result = still s.slot.content (has_finished acts) (has_given_up acts) back dropped (fault Operating acts) (fault Operating (Answered (Number n) ∷ acts)) t.result;
-        seats = unseated s Operating (has_given_up acts) (has_given_up acts) js ps ss on.stays t.seats;
+        result = still s.slot.content (has_finished acts) (has_given_up acts) back dropped
+            (fault Operating acts) (fault Operating (Answered (Number n) ∷ acts)) t.result;
+        seats =
+            unseated s Operating (has_given_up acts) (has_given_up acts) js ps ss on.stays t.seats;
       })
   operation_answers _ fits e t = absurd (cc)
 
   -- it puts the result
-  pub result_puts : (waker : HolderWaker) (result : Slot ℕ (Unit {0})) → At s Operating capacity last shut back dropped took accepted acts js ps ss PutResult
+  pub result_puts : (waker : HolderWaker) (result : Slot ℕ (Unit {0}))
+      → At s Operating capacity last shut back dropped took accepted acts js ps ss PutResult
       → Tied (record s { result = result }) (ResultPut waker ∷ acts)
   result_puts waker result t = record {
-    lent = record { begun = t.lent.begun; goods = t.lent.goods; some = t.lent.some; holds = t.lent.holds; within = t.lent.within; shut_is = t.lent.shut_is };
+    lent = record {
+      begun = t.lent.begun;
+      goods = t.lent.goods;
+      some = t.lent.some;
+      holds = t.lent.holds;
+      within = t.lent.within;
+      shut_is = t.lent.shut_is;
+    };
     flow = record {
-      plain = plain_with s s.item result took accepted (has_closed acts) (gave acts) (peeked acts) (taken acts) t.flow.plain;
+      plain = plain_with s s.item result took accepted (has_closed acts) (gave acts) (peeked acts)
+          (taken acts) t.flow.plain;
       next_is = tt;
     };
     result = t.result;
@@ -71,6 +109,10 @@ module _ (s : Session) (capacity : ℕ) (last : Option SeenSession) (shut back d
       job = t.seats.job;
       owner = t.seats.owner;
       slot = t.seats.slot;
-      reason = record { job = t.seats.reason.job; owner = t.seats.reason.owner; slot = t.seats.reason.slot };
+      reason = record {
+        job = t.seats.reason.job;
+        owner = t.seats.reason.owner;
+        slot = t.seats.reason.slot;
+      };
     };
   }

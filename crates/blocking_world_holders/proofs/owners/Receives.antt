@@ -1,43 +1,67 @@
 -- The session of an owner that takes items after each act of the owner itself.
-use Rattle.std.proofs.Common.{◌≡◌, ℕ, ◌≤◌, List, [], ◌∷◌, ◌++◌, length, length-append, append_assoc, Bool, true, false, refl, sym, ap, ◌∙◌, arith, Option, ◌||◌, ◌-◌, drop, length-drop}
+use Rattle.std.proofs.Common.{◌≡◌, ℕ, ◌≤◌, List, [], ◌∷◌, ◌++◌, length, length-append, append_assoc}
+use Rattle.std.proofs.Common.{Bool, true, false, refl, sym, ap, ◌∙◌, arith, Option, ◌||◌, ◌-◌, drop}
+use Rattle.std.proofs.Common.{length-drop}
 use Rattle.blocking_world_holders.proofs.Types.{Act}
-use Rattle.blocking_world_holders.proofs.Words.{room, Closed, Served, Waiting, receive, JobNumber, Streaming, has_given_up, next_but_wake, SeenSession, SessionAs, passed_by, Session, received, session_after_receive}
+use Rattle.blocking_world_holders.proofs.Words.{room, Closed, Served, Waiting, receive, JobNumber}
+use Rattle.blocking_world_holders.proofs.Words.{Streaming, has_given_up, next_but_wake, SeenSession}
+use Rattle.blocking_world_holders.proofs.Words.{SessionAs, passed_by, Session, received}
+use Rattle.blocking_world_holders.proofs.Words.{session_after_receive}
 use Rattle.blocking_world_holders.proofs.owners.Drains.{more_room}
 
 -- an owner that finds an item found the first of what was inside
-pub first_item : {N : Type 0} (items : List ℕ) (lasts : Bool) (seat : Option N) (got : ℕ × Option N) → receive items lasts seat ≡ Served got → (items ≡ got.0 ∷ drop 1 items) × (got.1 ≡ seat)
+pub first_item : {N : Type 0} (items : List ℕ) (lasts : Bool) (seat : Option N) (got : ℕ × Option N)
+    → receive items lasts seat ≡ Served got → (items ≡ got.0 ∷ drop 1 items) × (got.1 ≡ seat)
 first_item [] true seat got e = absurd (cc)
 first_item [] false seat got e = absurd (cc)
-first_item (x ∷ xs) lasts seat got e = let same : got ≡ (x, seat) = cc in (ap (λ g. g.0 ∷ xs) (sym same), ap (λ g. g.1) same)
+first_item (x ∷ xs) lasts seat got e = let same : got ≡ (x, seat) = cc in
+    (ap (λ g. g.0 ∷ xs) (sym same), ap (λ g. g.1) same)
 
-pub no_item_yet : {N : Type 0} (items : List ℕ) (lasts : Bool) (seat : Option N) → receive items lasts seat ≡ Waiting → (items ≡ []) × (lasts ≡ true)
+pub no_item_yet : {N : Type 0} (items : List ℕ) (lasts : Bool) (seat : Option N)
+    → receive items lasts seat ≡ Waiting → (items ≡ []) × (lasts ≡ true)
 no_item_yet [] true seat e = (refl, refl)
 no_item_yet [] false seat e = absurd (cc)
 no_item_yet (x ∷ xs) lasts seat e = absurd (cc)
 
-pub no_more_items : {N : Type 0} (items : List ℕ) (lasts : Bool) (seat : Option N) → receive items lasts seat ≡ Closed → (items ≡ []) × (lasts ≡ false)
+pub no_more_items : {N : Type 0} (items : List ℕ) (lasts : Bool) (seat : Option N)
+    → receive items lasts seat ≡ Closed → (items ≡ []) × (lasts ≡ false)
 no_more_items [] true seat e = absurd (cc)
 no_more_items [] false seat e = (refl, refl)
 no_more_items (x ∷ xs) lasts seat e = absurd (cc)
 
-module _ (s : Session) (capacity : ℕ) (last : Option SeenSession) (shut back dropped : Bool) (took accepted : List ℕ) (acts : List Act) (js ps ss : Bool) where
+module _ (s : Session) (capacity : ℕ) (last : Option SeenSession) (shut back dropped : Bool)
+    (took accepted : List ℕ) (acts : List Act) (js ps ss : Bool) where
   -- it receives an item
-  pub receives : (got : ℕ × Option JobNumber) → received s ≡ Served got → SessionAs s Streaming capacity last shut back dropped took accepted acts js ps ss
-      → SessionAs (session_after_receive (Served got) s) Streaming capacity last shut back dropped (took ++ got.0 ∷ []) accepted acts false ps ss
+  pub receives : (got : ℕ × Option JobNumber) → received s ≡ Served got
+      → SessionAs s Streaming capacity last shut back dropped took accepted acts js ps ss
+      → SessionAs (session_after_receive (Served got) s) Streaming capacity last shut back dropped
+      (took ++ got.0 ∷ []) accepted acts false ps ss
   receives got found t =
       let f = first_item s.pipe.items s.pipe.is_job_open s.pipe.job_seat got found in
       let within = t.lent.within in
       let bounded = t.flow.bounded in
-      let shorter : length (drop 1 s.pipe.items) ≤ length s.pipe.items = simp length-drop (omega arith) in
+      let shorter : length (drop 1 s.pipe.items) ≤ length s.pipe.items =
+      simp length-drop (omega arith) in
       record {
-        lent = record { begun = t.lent.begun; goods = t.lent.goods; some = t.lent.some; holds = t.lent.holds; within = omega (arith, shorter, within); shut_is = t.lent.shut_is };
+        lent = record {
+          begun = t.lent.begun;
+          goods = t.lent.goods;
+          some = t.lent.some;
+          holds =
+              t.lent.holds;
+          within = omega (arith, shorter, within);
+          shut_is = t.lent.shut_is;
+        };
         flow = record {
           closed_is = t.flow.closed_is;
-          inside = t.flow.inside ∙ ap (λ l. took ++ l) f.0 ∙ sym (append_assoc took (got.0 ∷ []) (drop 1 s.pipe.items));
+          inside = t.flow.inside ∙ ap (λ l. took ++ l) f.0
+              ∙ sym (append_assoc took (got.0 ∷ []) (drop 1 s.pipe.items));
           put = t.flow.put;
           bounded = rw length-append (omega (arith, bounded));
           sound = t.flow.sound;
-          passed_is = more_room (next_but_wake Streaming acts) (room s.pipe) (s.pipe.capacity - length (drop 1 s.pipe.items)) s.pipe.is_job_open (shut || has_given_up acts) (passed_by acts)
+          passed_is = more_room (next_but_wake Streaming acts)
+              (room s.pipe) (s.pipe.capacity - length (drop 1 s.pipe.items)) s.pipe.is_job_open
+              (shut || has_given_up acts) (passed_by acts)
               (omega (arith, shorter)) t.flow.passed_is;
           unclosed = t.flow.unclosed;
           unwritten = t.flow.unwritten;
@@ -56,11 +80,29 @@ module _ (s : Session) (capacity : ℕ) (last : Option SeenSession) (shut back d
       }
 
   -- there is none yet, and it is seated
-  pub waits_for_item : received s ≡ Waiting → SessionAs s Streaming capacity last shut back dropped took accepted acts js ps ss
-      → SessionAs (session_after_receive Waiting s) Streaming capacity last shut back dropped took accepted acts js true ss
+  pub waits_for_item : received s ≡ Waiting
+      → SessionAs s Streaming capacity last shut back dropped took accepted acts js ps ss
+      → SessionAs (session_after_receive Waiting s) Streaming capacity last shut back dropped took
+      accepted acts js true ss
   waits_for_item found t = record {
-    lent = record { begun = t.lent.begun; goods = t.lent.goods; some = t.lent.some; holds = t.lent.holds; within = t.lent.within; shut_is = t.lent.shut_is };
-    flow = record { closed_is = t.flow.closed_is; inside = t.flow.inside; put = t.flow.put; bounded = t.flow.bounded; sound = t.flow.sound; passed_is = t.flow.passed_is; unclosed = t.flow.unclosed; unwritten = t.flow.unwritten };
+    lent = record {
+      begun = t.lent.begun;
+      goods = t.lent.goods;
+      some = t.lent.some;
+      holds = t.lent.holds;
+      within = t.lent.within;
+      shut_is = t.lent.shut_is;
+    };
+    flow = record {
+      closed_is = t.flow.closed_is;
+      inside = t.flow.inside;
+      put = t.flow.put;
+      bounded = t.flow.bounded;
+      sound = t.flow.sound;
+      passed_is = t.flow.passed_is;
+      unclosed = t.flow.unclosed;
+      unwritten = t.flow.unwritten;
+    };
     result = t.result;
     seats = record {
       job = t.seats.job;

@@ -11,11 +11,14 @@ use Rattle.blk_commands.proofs.command.run.Goals as goal
 
 pub returns-in_default-clause-done : goal.returns-in_default-clause-done
 returns-in_default-clause-done g c other =
-    let wrong : request_of (text_of c.args.setting) (texts_of c.args.words.now) ≡ None = sym c.asked.ensures ∙ c.in_default.is in (
+    let wrong : request_of (text_of c.args.setting) (texts_of c.args.words.now) ≡ None =
+    sym c.asked.ensures ∙ c.in_default.is in (
       record {
         output = [];
         faults = line_of usage;
-        does = subst (λ r. Does r (g.R.Read.remaining c.args.input.now) (g.R.Read.remaining c.args.input.now) 2 [] (line_of usage)) (sym wrong) (refl, refl, refl);
+        does = subst (λ r. Does r (g.R.Read.remaining c.args.input.now)
+            (g.R.Read.remaining c.args.input.now) 2 [] (line_of usage)) (sym wrong)
+            (refl, refl, refl);
         written = appends_nothing (g.W.Write.contents c.args.output.now);
         told = c.tell.ensures.part;
       },
@@ -24,12 +27,15 @@ returns-in_default-clause-done g c other =
 
 pub returns-in-Ok-clause-done : goal.returns-in-Ok-clause-done
 returns-in-Ok-clause-done g c other =
-    let right : request_of (text_of c.args.setting) (texts_of c.args.words.now) ≡ Some c.in-Some.request = sym c.asked.ensures ∙ c.in-Some.is in
+    let right : request_of (text_of c.args.setting) (texts_of c.args.words.now)
+    ≡ Some c.in-Some.request = sym c.asked.ensures ∙ c.in-Some.is in
     let answer = c.in-Ok.ensures.answers in (
       record {
         output = answer.0;
         faults = [];
-        does = subst (λ r. Does r (g.R.Read.remaining c.args.input.now) (g.R.Read.remaining c.answer.new.input) 0 answer.0 []) (sym right) (inl (refl, answer.1, refl));
+        does = subst (λ r. Does r (g.R.Read.remaining c.args.input.now)
+            (g.R.Read.remaining c.answer.new.input) 0 answer.0 []) (sym right)
+            (inl (refl, answer.1, refl));
         written = answer.2;
         told = part_nothing (g.F.Write.contents c.args.faults.now) [];
       },
@@ -38,14 +44,26 @@ returns-in-Ok-clause-done g c other =
 
 pub returns-in-Err-clause-done : goal.returns-in-Err-clause-done
 returns-in-Err-clause-done g c other =
-    let right : request_of (text_of c.args.setting) (texts_of c.args.words.now) ≡ Some c.in-Some.request = sym c.asked.ensures ∙ c.in-Some.is in
-    let two : fault_status c.in-Err.fault ≡ 2 = status_two c.in-Err.fault (λ e. other (c.status.ensures ∙ e)) in (
+    let right : request_of (text_of c.args.setting) (texts_of c.args.words.now)
+    ≡ Some c.in-Some.request = sym c.asked.ensures ∙ c.in-Some.is in
+    let two : fault_status c.in-Err.fault ≡ 2 =
+    status_two c.in-Err.fault (λ e. other (c.status.ensures ∙ e)) in (
       record {
         output = [];
         faults = line_of (command_fault_text c.in-Err.fault);
-        does = subst (λ r. Does r (g.R.Read.remaining c.args.input.now) (g.R.Read.remaining c.answer.new.input) c.status.result [] (line_of (command_fault_text c.in-Err.fault))) (sym right)
-            (inr (c.in-Err.fault, c.status.ensures ∙ two, refl, two, c.in-Err.ensures.answers.1, refl));
-        written = subst (λ known. Appends (g.W.Write.contents c.args.output.now) known []) (sym (ap g.W.Write.contents (c.in-Err.ensures.untouched two)))
+        does = subst (λ r.
+            Does r (g.R.Read.remaining c.args.input.now) (g.R.Read.remaining c.answer.new.input)
+            c.status.result [] (line_of (command_fault_text c.in-Err.fault))) (sym right)
+            (inr (
+              c.in-Err.fault,
+              c.status.ensures ∙ two,
+              refl,
+              two,
+              c.in-Err.ensures.answers.1,
+              refl,
+            ));
+        written = subst (λ known. Appends (g.W.Write.contents c.args.output.now) known [])
+            (sym (ap g.W.Write.contents (c.in-Err.ensures.untouched two)))
             (appends_nothing (g.W.Write.contents c.args.output.now));
         told = c.tell-in-Err.ensures.part;
       },

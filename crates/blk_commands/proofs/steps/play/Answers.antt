@@ -11,7 +11,12 @@ loop-instruction-preserved c =
     let instructions = c.args.instructions.now in
     let at = c.loop-instruction.instruction-index in
     let instruction = c.instruction-item.result in
-    subst (λ ls. Takes (PlaysInstructions ls) c.args.world.now.history c.play_instruction.new.world.history [] c.play_instruction.new.events.items)
-    (sym (take_more instructions at instruction c.loop-instruction-test.true ∙ ap (λ (i : Instruction). take at instructions ++ i ∷ []) (sym c.instruction-item.is)))
-    (takes_instruction (take at instructions) instruction c.args.world.now.history c.loop-instruction.world.history c.play_instruction.new.world.history c.loop-instruction.events.items
-    c.play_instruction.new.events.items c.loop-instruction.invariant c.in_ok-play_instruction.ensures)
+    subst (λ ls. Takes (PlaysInstructions ls) c.args.world.now.history
+    c.play_instruction.new.world.history [] c.play_instruction.new.events.items)
+    (sym (take_more instructions at instruction c.loop-instruction-test.true
+    ∙ ap (λ (i : Instruction). take at instructions ++ i ∷ []) (sym c.instruction-item.is)))
+    (takes_instruction (take at instructions) instruction c.args.world.now.history
+    c.loop-instruction.world.history c.play_instruction.new.world.history
+    c.loop-instruction.events.items
+    c.play_instruction.new.events.items c.loop-instruction.invariant
+    c.in_ok-play_instruction.ensures)

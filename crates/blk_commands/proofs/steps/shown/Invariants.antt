@@ -6,4 +6,5 @@ use Rattle.blk_commands.specs.Plays.{line_of}
 use Rattle.blk_commands.proofs.steps.shown.Given as goal
 
 abbrev pub invariant-loop-event : goal.invariant-loop-event
-invariant-loop-event l = string_bytes l.text ≡ flat_map (λ event. line_of (event_text event)) (take l.event-index l.events)
+invariant-loop-event l = string_bytes l.text
+    ≡ flat_map (λ event. line_of (event_text event)) (take l.event-index l.events)

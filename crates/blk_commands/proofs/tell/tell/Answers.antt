@@ -6,10 +6,14 @@ use Rattle.blk_commands.proofs.tell.tell.Goals as goal
 
 pub returns-clause-part : goal.returns-clause-part
 returns-clause-part g c =
-    line_part IsIntact inline_text (g.D.Display.output c.args.text) c.new-line.result c.writeln.new.self _ _ c.as_bytes.result.now
-    c.new-line.ensures.intact c.new-line.ensures.text c.in_ok-writeln.ensures.writes (c.as_bytes.ensures.value ∙ c.as_str.ensures.value) c.write_part.ensures.part
+    line_part IsIntact inline_text (g.D.Display.output c.args.text) c.new-line.result
+    c.writeln.new.self _ _ c.as_bytes.result.now
+    c.new-line.ensures.intact c.new-line.ensures.text c.in_ok-writeln.ensures.writes
+    (c.as_bytes.ensures.value ∙ c.as_str.ensures.value) c.write_part.ensures.part
 
 pub returns-clause-whole : goal.returns-clause-whole
 returns-clause-whole g c =
-    line_whole IsIntact inline_text c.write_part.result (g.D.Display.output c.args.text) c.new-line.result c.writeln.new.self _ _ c.as_bytes.result.now
-    c.new-line.ensures.intact c.new-line.ensures.text c.in_ok-writeln.ensures.writes (c.as_bytes.ensures.value ∙ c.as_str.ensures.value) c.write_part.ensures.whole
+    line_whole IsIntact inline_text c.write_part.result (g.D.Display.output c.args.text)
+    c.new-line.result c.writeln.new.self _ _ c.as_bytes.result.now
+    c.new-line.ensures.intact c.new-line.ensures.text c.in_ok-writeln.ensures.writes
+    (c.as_bytes.ensures.value ∙ c.as_str.ensures.value) c.write_part.ensures.whole

@@ -4,4 +4,5 @@ use Rattle.futures.specs.Task.{Keeps}
 use Rattle.blocking_io.proofs.read_ext.append_all.Given as goal
 
 abbrev pub invariant-loop : goal.invariant-loop
-invariant-loop g l = (g.A.AsyncRead.closed l.reader → ⊥) × (l.start ≤ vec_len l.out) × StartsWith (vec_items l.out) (vec_items l.initial.out) × Keeps l.initial.cx l.cx
+invariant-loop g l = (g.A.AsyncRead.closed l.reader → ⊥) × (l.start ≤ vec_len l.out)
+    × StartsWith (vec_items l.out) (vec_items l.initial.out) × Keeps l.initial.cx l.cx

@@ -3,7 +3,8 @@ use Rattle.futures.specs.Task.{Keeps}
 use Rattle.blocking_io.proofs.write_ext.hand_on.Given as goal
 
 abbrev pub invariant-loop-taken : goal.invariant-loop-taken
-invariant-loop-taken g l = (g.A.AsyncWrite.closed l.writer → ⊥) × (l.taken ≤ length l.bytes) × Keeps l.initial.cx l.cx
+invariant-loop-taken g l =
+    (g.A.AsyncWrite.closed l.writer → ⊥) × (l.taken ≤ length l.bytes) × Keeps l.initial.cx l.cx
 
 abbrev pub decreases-loop-taken : goal.decreases-loop-taken
 decreases-loop-taken g l = length l.bytes - l.taken

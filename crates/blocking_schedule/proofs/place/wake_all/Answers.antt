@@ -10,5 +10,7 @@ loop-place-preserved c =
     let here = get_or c.loop-place.threads c.loop-place.place-index Outside in
     let within : c.loop-place.place-index < length c.loop-place.threads = omega arith in
     let read : get_or c.loop-place.threads c.loop-place.place-index here ≡ here =
-    get_or_from_slice_get c.loop-place.threads c.loop-place.place-index here here (slice_get-get_or c.loop-place.threads c.loop-place.place-index Outside within) in
-    rw c.woken.ensures (map_over_more woken_from c.args.threads.now c.loop-place.threads c.loop-place.place-index here c.loop-place-test.true c.loop-place.invariant (sym read))
+    get_or_from_slice_get c.loop-place.threads c.loop-place.place-index here here
+    (slice_get-get_or c.loop-place.threads c.loop-place.place-index Outside within) in
+    rw c.woken.ensures (map_over_more woken_from c.args.threads.now c.loop-place.threads
+    c.loop-place.place-index here c.loop-place-test.true c.loop-place.invariant (sym read))

@@ -8,4 +8,5 @@ use Rattle.blocking_world.proofs.world.run.Goals as goal
 pub returns-clause-independent : goal.returns-clause-independent
 returns-clause-independent c =
     subst (λ (v : WorldValue). AreIndependent v.history.past) c.world.view_is
-    (independent c.world.inside.assembly.parts.crew.pool.counts.setting c.world.inside.plan.items (reverse c.world.inside.trace.items) c.world.invariant.legal)
+    (independent c.world.inside.assembly.parts.crew.pool.counts.setting c.world.inside.plan.items
+    (reverse c.world.inside.trace.items) c.world.invariant.legal)

@@ -5,4 +5,5 @@ use Rattle.blocking_world_copiers.specs.Copiers.{has_number}
 use Rattle.blocking_world_copiers.proofs.assembly.place_at.Given as goal
 
 abbrev pub invariant-loop-copier : goal.invariant-loop-copier
-invariant-loop-copier l = (l.place ≡ l.copier-index) × (position_or_len (has_number l.number) (take l.copier-index l.copiers) ≡ l.copier-index)
+invariant-loop-copier l = (l.place ≡ l.copier-index)
+    × (position_or_len (has_number l.number) (take l.copier-index l.copiers) ≡ l.copier-index)

@@ -9,5 +9,8 @@ pub returns-then-belongs : goal.returns-then-belongs
 returns-then-belongs c =
     let all = c.args.copiers.now in
     let index = c.loop-copier.copier-index in
-    let found = slice_get_read all (length all) index c.copier-item.result refl c.loop-copier-test.true c.copier-item.is in
-    c.loop-copier.invariant.0 ∙ sym (first_here (belongs c.args.owner) all index c.copier-item.result c.loop-copier.invariant.1 found (sym c.belongs.ensures ∙ c.if-belongs.true))
+    let found = slice_get_read all (length all) index c.copier-item.result refl
+    c.loop-copier-test.true c.copier-item.is in
+    c.loop-copier.invariant.0
+    ∙ sym (first_here (belongs c.args.owner) all index c.copier-item.result
+    c.loop-copier.invariant.1 found (sym c.belongs.ensures ∙ c.if-belongs.true))

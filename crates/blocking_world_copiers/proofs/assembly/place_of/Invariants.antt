@@ -5,4 +5,5 @@ use Rattle.blocking_world_copiers.specs.Copiers.{belongs}
 use Rattle.blocking_world_copiers.proofs.assembly.place_of.Given as goal
 
 abbrev pub invariant-loop-copier : goal.invariant-loop-copier
-invariant-loop-copier l = (l.place ≡ l.copier-index) × (position_or_len (belongs l.owner) (take l.copier-index l.copiers) ≡ l.copier-index)
+invariant-loop-copier l = (l.place ≡ l.copier-index)
+    × (position_or_len (belongs l.owner) (take l.copier-index l.copiers) ≡ l.copier-index)

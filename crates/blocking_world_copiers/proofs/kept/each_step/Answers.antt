@@ -4,10 +4,12 @@ use Rattle.blocking_world_copiers.proofs.Whole.{does_lawful, does_setting}
 use Rattle.blocking_world_copiers.proofs.kept.each_step.Goals as goal
 
 pub returns-clause-lawful : goal.returns-clause-lawful
-returns-clause-lawful c = λ setting plan w new past step e lawful does. does_lawful setting plan w past lawful step e new does
+returns-clause-lawful c = λ setting plan w new past step e lawful does.
+    does_lawful setting plan w past lawful step e new does
 
 pub returns-clause-setting : goal.returns-clause-setting
-returns-clause-setting c = λ setting plan w new past step e lawful does. does_setting setting plan w past lawful step e new does
+returns-clause-setting c = λ setting plan w new past step e lawful does.
+    does_setting setting plan w past lawful step e new does
 
 pub returns-clause-carried : goal.returns-clause-carried
 returns-clause-carried c = λ plan w new step e does. does_carry plan w e new step does

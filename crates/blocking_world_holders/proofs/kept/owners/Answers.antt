@@ -7,7 +7,8 @@ pub returns-clause-aside : goal.returns-clause-aside
 returns-clause-aside c = λ row past now out h. proved.aside row past now out h
 
 pub returns-clause-born : goal.returns-clause-born
-returns-clause-born c = λ row past now capacity client makes h. proved.born row past now capacity client makes h
+returns-clause-born c =
+    λ row past now capacity client makes h. proved.born row past now capacity client makes h
 
 pub returns-clause-stepped : goal.returns-clause-stepped
 returns-clause-stepped c = λ old new past now takes h. proved.stepped old new past now takes h

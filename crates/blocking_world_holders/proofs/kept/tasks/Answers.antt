@@ -8,7 +8,8 @@ pub returns-clause-beside : goal.returns-clause-beside
 returns-clause-beside c = λ row past now out h. proved.beside row past now out h
 
 pub returns-clause-born : goal.returns-clause-born
-returns-clause-born c = λ row past now number makes free h. proved.born row past now number makes free h
+returns-clause-born c =
+    λ row past now number makes free h. proved.born row past now number makes free h
 
 pub returns-clause-stepped : goal.returns-clause-stepped
 returns-clause-stepped c = λ old new past now takes h. proved.stepped old new past now takes h

@@ -6,7 +6,8 @@ use Rattle.blocking_world_law_tests.proofs.answers.sweeps.Goals as goal
 pub returns-clause-accepts_marked : goal.returns-clause-accepts_marked
 returns-clause-accepts_marked c = pooled_so (search rules)
 
-pub returns-clause-accepts_marked_beside_unmarked : goal.returns-clause-accepts_marked_beside_unmarked
+pub returns-clause-accepts_marked_beside_unmarked :
+    goal.returns-clause-accepts_marked_beside_unmarked
 returns-clause-accepts_marked_beside_unmarked c = pooled_so (search rules)
 
 pub returns-clause-accepts_order_of_acceptance : goal.returns-clause-accepts_order_of_acceptance

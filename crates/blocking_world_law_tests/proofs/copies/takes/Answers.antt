@@ -10,7 +10,9 @@ too_short all written less ending =
     omega (arith, less, many, parts)
 
 pub returns-clause-refuses_all_inside : goal.returns-clause-refuses_all_inside
-returns-clause-refuses_all_inside c = λ law. too_short [] (97 ∷ 98 ∷ []) (omega arith) law.told.taken
+returns-clause-refuses_all_inside c =
+    λ law. too_short [] (97 ∷ 98 ∷ []) (omega arith) law.told.taken
 
 pub returns-clause-refuses_one_inside : goal.returns-clause-refuses_one_inside
-returns-clause-refuses_one_inside c = λ law. too_short (97 ∷ []) (97 ∷ 98 ∷ []) (omega arith) law.told.taken
+returns-clause-refuses_one_inside c =
+    λ law. too_short (97 ∷ []) (97 ∷ 98 ∷ []) (omega arith) law.told.taken

@@ -9,5 +9,6 @@ returns-clause-accepts_start_at_sweep c = pooled_so (search rules)
 pub returns-clause-accepts_start_at_cancel : goal.returns-clause-accepts_start_at_cancel
 returns-clause-accepts_start_at_cancel c = pooled_so (search rules)
 
-pub returns-clause-accepts_queuing_again_without_growth : goal.returns-clause-accepts_queuing_again_without_growth
+pub returns-clause-accepts_queuing_again_without_growth :
+    goal.returns-clause-accepts_queuing_again_without_growth
 returns-clause-accepts_queuing_again_without_growth c = pooled_so (search rules)

@@ -1,5 +1,6 @@
 -- The end of a turn frees at most one place.
-use Rattle.blocking_world_law_tests.proofs.Rooms.{ends_no_more, ends_one_less, ends_free, ends_beside}
+use Rattle.blocking_world_law_tests.proofs.Rooms.{ends_no_more, ends_one_less, ends_free}
+use Rattle.blocking_world_law_tests.proofs.Rooms.{ends_beside}
 use Rattle.blocking_world_law_tests.proofs.room.ends_free_one.Goals as goal
 
 pub returns-clause-no_more : goal.returns-clause-no_more

@@ -10,16 +10,20 @@ pub returns-clause-by_owner_wake : goal.returns-clause-by_owner_wake
 returns-clause-by_owner_wake c = λ setting plan past now refused legal. refused legal.owner_wakes.0
 
 pub returns-clause-by_owner : goal.returns-clause-by_owner
-returns-clause-by_owner c = λ setting plan past now h inside refused legal. refused (owner_keeps setting plan past now h inside legal)
+returns-clause-by_owner c = λ setting plan past now h inside refused legal.
+    refused (owner_keeps setting plan past now h inside legal)
 
 pub returns-clause-by_ends : goal.returns-clause-by_ends
-returns-clause-by_ends c = λ setting plan past now h inside refused legal. refused (owner_keeps setting plan past now h inside legal).ends
+returns-clause-by_ends c = λ setting plan past now h inside refused legal.
+    refused (owner_keeps setting plan past now h inside legal).ends
 
 pub returns-clause-by_passing : goal.returns-clause-by_passing
 returns-clause-by_passing c = λ setting plan past now h inside refused legal.
     refused
-    (subst (λ b. PassesOn (cond b (now.event ∷ cut h (events past)) (cut h (events past)))) (sym inside)
+    (subst (λ b. PassesOn (cond b (now.event ∷ cut h (events past)) (cut h (events past))))
+    (sym inside)
     (owner_keeps setting plan past now h inside legal).passed)
 
 pub returns-clause-by_task : goal.returns-clause-by_task
-returns-clause-by_task c = λ setting plan past now k s held of refused legal. refused (task_keeps setting plan past now k s held of legal)
+returns-clause-by_task c = λ setting plan past now k s held of refused legal.
+    refused (task_keeps setting plan past now k s held of legal)

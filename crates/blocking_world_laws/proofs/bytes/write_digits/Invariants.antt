@@ -6,4 +6,5 @@ use Rattle.blocking_world_laws.proofs.bytes.write_digits.Given as goal
 
 abbrev pub invariant-loop-byte : goal.invariant-loop-byte
 invariant-loop-byte g l =
-    IsPlainFormatter l.initial.f → HasWritten g.W.Write.write_str_gives l.initial.f (hex_digits (take l.byte-index l.fn.bytes)) l.f
+    IsPlainFormatter l.initial.f → HasWritten g.W.Write.write_str_gives l.initial.f
+    (hex_digits (take l.byte-index l.fn.bytes)) l.f

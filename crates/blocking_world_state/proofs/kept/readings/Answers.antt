@@ -1,6 +1,7 @@
 -- What is read off lawful parts.
 use Rattle.blocking_world_state.proofs.kept.readings.Goals as goal
-use Rattle.blocking_world_state.proofs.laws.Whole.{served_now, staffed_now, held_now, acts_is, polls_is}
+use Rattle.blocking_world_state.proofs.laws.Whole.{served_now, staffed_now, held_now, acts_is}
+use Rattle.blocking_world_state.proofs.laws.Whole.{polls_is}
 
 pub returns-clause-served : goal.returns-clause-served
 returns-clause-served c = served_now

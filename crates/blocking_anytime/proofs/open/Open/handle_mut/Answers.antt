@@ -3,4 +3,5 @@ use Rattle.std.proofs.Common.{refl}
 use Rattle.blocking_anytime.proofs.open.Open.handle_mut.Goals as goal
 
 pub returns : goal.returns
-returns g c = ((refl, c.handle_mut.follows.holds, c.handle_mut.follows.holds-at-none), c.handle_mut.ensures)
+returns g c =
+    ((refl, c.handle_mut.follows.holds, c.handle_mut.follows.holds-at-none), c.handle_mut.ensures)

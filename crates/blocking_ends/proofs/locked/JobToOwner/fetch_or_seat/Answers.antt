@@ -12,6 +12,8 @@ invariant_of-self g c =
 pub returns-clause-held : goal.returns-clause-held
 returns-clause-held g c =
     subst
-    (λ seen. OnFetched c.fetch_or_seat-answer.result.answer (HoldFrom g.R.PlaceRule.holds seen.received c.fetch_or_seat-answer.new.piece.items))
+    (λ seen. OnFetched c.fetch_or_seat-answer.result.answer
+    (HoldFrom g.R.PlaceRule.holds seen.received c.fetch_or_seat-answer.new.piece.items))
     c.self.view_is
-    (fetch_held g.R.PlaceRule.holds g.R.PlaceRule.ended _ _ _ _ _ _ _ _ _ c.self.invariant c.fetch_or_seat-answer.ensures.fetches)
+    (fetch_held g.R.PlaceRule.holds g.R.PlaceRule.ended _ _ _ _ _ _ _ _ _ c.self.invariant
+    c.fetch_or_seat-answer.ensures.fetches)

@@ -4,7 +4,8 @@ use Rattle.futures.specs.declared.task.Poll.{Poll}
 use Rattle.futures.specs.declared.task.Poll.TheVariants.{Ready, Pending}
 use Rattle.blocking_files.proofs.changing.ChangingFuture.TheImpl.Goals as goal
 
--- what the trait asks of a poll, where a future promises nothing of its output and may always be polled
+-- what the trait asks of a poll, where a future promises nothing of its output and may always be
+-- polled
 ready_anyhow : {A : Type 0} (r : Poll A) → IfReady r (λ _. ⊤)
 ready_anyhow (Ready _) = tt
 ready_anyhow Pending = tt

@@ -8,7 +8,8 @@ loop-init g c = (([], refl), c.requires.0, c.requires.1, (λ fact held. held), c
 
 pub loop-preserved : goal.loop-preserved
 loop-preserved g c = (
-  reaches_on g.A.AsyncRead.reads g.B.AsyncWrite.writes c.args.self.now c.loop.self c.turn.new.self c.loop.invariant.0 c.turn.ensures.turns,
+  reaches_on g.A.AsyncRead.reads g.B.AsyncWrite.writes c.args.self.now c.loop.self c.turn.new.self
+      c.loop.invariant.0 c.turn.ensures.turns,
   c.turn.ensures.reader_open,
   c.turn.ensures.writer_open,
   (λ fact held. c.turn.ensures.kept fact (c.loop.invariant.3 fact held)),
@@ -17,22 +18,27 @@ loop-preserved g c = (
 
 pub returns-in-Pending-clause-reaches : goal.returns-in-Pending-clause-reaches
 returns-in-Pending-clause-reaches g c =
-    reaches_on g.A.AsyncRead.reads g.B.AsyncWrite.writes c.args.self.now c.loop.self c.turn.new.self c.loop.invariant.0 c.turn.ensures.turns
+    reaches_on g.A.AsyncRead.reads g.B.AsyncWrite.writes c.args.self.now c.loop.self c.turn.new.self
+    c.loop.invariant.0 c.turn.ensures.turns
 
 pub returns-in-Done-clause-reaches : goal.returns-in-Done-clause-reaches
 returns-in-Done-clause-reaches g c =
-    reaches_on g.A.AsyncRead.reads g.B.AsyncWrite.writes c.args.self.now c.loop.self c.turn.new.self c.loop.invariant.0 c.turn.ensures.turns
+    reaches_on g.A.AsyncRead.reads g.B.AsyncWrite.writes c.args.self.now c.loop.self c.turn.new.self
+    c.loop.invariant.0 c.turn.ensures.turns
 
 pub returns-in-Pending-clause-carries : goal.returns-in-Pending-clause-carries
 returns-in-Pending-clause-carries g c =
     reaches_carry g.A.AsyncRead.reads g.B.AsyncWrite.writes c.args.self.now c.turn.new.self
-    (reaches_on g.A.AsyncRead.reads g.B.AsyncWrite.writes c.args.self.now c.loop.self c.turn.new.self c.loop.invariant.0 c.turn.ensures.turns)
+    (reaches_on g.A.AsyncRead.reads g.B.AsyncWrite.writes c.args.self.now c.loop.self
+    c.turn.new.self c.loop.invariant.0 c.turn.ensures.turns)
 
 pub returns-in-Done-clause-carries : goal.returns-in-Done-clause-carries
 returns-in-Done-clause-carries g c =
     reaches_carry g.A.AsyncRead.reads g.B.AsyncWrite.writes c.args.self.now c.turn.new.self
-    (reaches_on g.A.AsyncRead.reads g.B.AsyncWrite.writes c.args.self.now c.loop.self c.turn.new.self c.loop.invariant.0 c.turn.ensures.turns)
+    (reaches_on g.A.AsyncRead.reads g.B.AsyncWrite.writes c.args.self.now c.loop.self
+    c.turn.new.self c.loop.invariant.0 c.turn.ensures.turns)
 
 pub returns-clause-carries : goal.returns-clause-carries
 returns-clause-carries g c =
-    reaches_carry g.A.AsyncRead.reads g.B.AsyncWrite.writes c.args.self.now c.loop.self c.loop.invariant.0
+    reaches_carry g.A.AsyncRead.reads g.B.AsyncWrite.writes c.args.self.now c.loop.self
+    c.loop.invariant.0

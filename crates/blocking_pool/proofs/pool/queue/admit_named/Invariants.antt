@@ -7,5 +7,7 @@ use Rattle.blocking_pool.proofs.pool.queue.admit_named.Given as goal
 
 abbrev pub invariant-loop-name : goal.invariant-loop-name
 invariant-loop-name l =
-    IsAdmitting (number_by l.spots) l.limit (as_known l.clients.known l.named.entries) (as_known l.clients.known l.name-iterator) l.fn.heads l.heads l.ready
-    × All (λ entry. 0 < entry.1.line.len → entry.1.line.first < length l.spots) (as_known l.clients.known l.name-iterator)
+    IsAdmitting (number_by l.spots) l.limit (as_known l.clients.known l.named.entries)
+    (as_known l.clients.known l.name-iterator) l.fn.heads l.heads l.ready
+    × All (λ entry. 0 < entry.1.line.len
+    → entry.1.line.first < length l.spots) (as_known l.clients.known l.name-iterator)

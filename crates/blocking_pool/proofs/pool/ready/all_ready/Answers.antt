@@ -9,4 +9,5 @@ pub returns-clause-unstaffed : goal.returns-clause-unstaffed
 returns-clause-unstaffed g c = ready_unstaffed
 
 pub returns-clause-new_unstaffed : goal.returns-clause-new_unstaffed
-returns-clause-new_unstaffed g c pool client sound nobody = ready_with_one pool client sound nobody ∙ ap (λ queue. length queue + 1) (ready_unstaffed pool sound nobody)
+returns-clause-new_unstaffed g c pool client sound nobody = ready_with_one pool client sound nobody
+    ∙ ap (λ queue. length queue + 1) (ready_unstaffed pool sound nobody)

@@ -2,4 +2,6 @@ use Rattle.blocking_schedule.proofs.Workers.{refuse_kept}
 use Rattle.blocking_schedule.proofs.schedule.Schedule.refuse.Goals as goal
 
 pub returns-clause-sound : goal.returns-clause-sound
-returns-clause-sound c = refuse_kept c.args.self.now.threads.items c.args.who c.args.self.now.pool c.args.self.now.is_locked c.args.self.now.is_manned c.args.self.now.is_queued c.requires c.max-self.result (cc)
+returns-clause-sound c = refuse_kept c.args.self.now.threads.items c.args.who c.args.self.now.pool
+    c.args.self.now.is_locked c.args.self.now.is_manned c.args.self.now.is_queued c.requires
+    c.max-self.result (cc)

@@ -16,9 +16,14 @@ loop-step-preserved c =
     record {
       sound = c.step.ensures.sound;
       runs =
-          subst (λ done. Runs done c.args.self.now c.step.new.self) (sym (take_more steps c.loop-step.step-index (Add 0) within))
-          (in_turn_more Schedule Step Steps so_far (get_or steps c.loop-step.step-index (Add 0)) c.args.self.now c.loop-step.self c.step.new.self c.loop-step.invariant.runs c.step.ensures.steps);
+          subst (λ done. Runs done c.args.self.now c.step.new.self)
+          (sym (take_more steps c.loop-step.step-index (Add 0) within))
+          (in_turn_more Schedule Step Steps so_far (get_or steps c.loop-step.step-index (Add 0))
+          c.args.self.now c.loop-step.self c.step.new.self c.loop-step.invariant.runs
+          c.step.ensures.steps);
     }
 
 pub returns-clause-forgotten : goal.returns-clause-forgotten
-returns-clause-forgotten c = nobody_is_forgotten c.loop-step.self.threads.items c.loop-step.self.pool c.loop-step.self.is_locked c.loop-step.self.is_manned c.loop-step.self.is_queued c.loop-step.invariant.sound
+returns-clause-forgotten c = nobody_is_forgotten c.loop-step.self.threads.items
+    c.loop-step.self.pool c.loop-step.self.is_locked c.loop-step.self.is_manned
+    c.loop-step.self.is_queued c.loop-step.invariant.sound

@@ -5,4 +5,5 @@ use Rattle.blocking_schedule.proofs.schedule.Schedule.run.Given as goal
 
 -- the steps so far were taken
 abbrev pub invariant-loop-step : goal.invariant-loop-step
-invariant-loop-step l = record { sound : IsSound l.self; runs : Runs (take l.step-index l.steps) l.initial.self l.self }
+invariant-loop-step l =
+    record { sound : IsSound l.self; runs : Runs (take l.step-index l.steps) l.initial.self l.self }

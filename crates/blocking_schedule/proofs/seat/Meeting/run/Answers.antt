@@ -15,6 +15,9 @@ loop-act-preserved c =
     record {
       heard = c.act.ensures.heard;
       meets =
-          subst (λ done. Meets done c.args.self.now c.act.new.self) (sym (take_more acts c.loop-act.act-index (Look false) within))
-          (in_turn_more Meeting Act Acts so_far (get_or acts c.loop-act.act-index (Look false)) c.args.self.now c.loop-act.self c.act.new.self c.loop-act.invariant.meets c.act.ensures.acts);
+          subst (λ done. Meets done c.args.self.now c.act.new.self)
+          (sym (take_more acts c.loop-act.act-index (Look false) within))
+          (in_turn_more Meeting Act Acts so_far (get_or acts c.loop-act.act-index (Look false))
+          c.args.self.now c.loop-act.self c.act.new.self c.loop-act.invariant.meets
+          c.act.ensures.acts);
     }

@@ -5,4 +5,5 @@ use Rattle.blocking_schedule.proofs.seat.Meeting.run.Given as goal
 
 -- the acts so far were done
 abbrev pub invariant-loop-act : goal.invariant-loop-act
-invariant-loop-act l = record { heard : IsHeard l.self; meets : Meets (take l.act-index l.acts) l.initial.self l.self }
+invariant-loop-act l =
+    record { heard : IsHeard l.self; meets : Meets (take l.act-index l.acts) l.initial.self l.self }

@@ -8,9 +8,12 @@ pub returns : goal.returns
 returns g c = (
   (
     refl,
-    λ w. lent is_lost (λ place held. record c.args.self.now { place = place; held = held }) c.handle_mut.result (c.handle_mut.follows.lender w) (AtOwner w) c.args.self.now.place
+    λ w. lent is_lost (λ place held. record c.args.self.now { place = place; held = held })
+        c.handle_mut.result (c.handle_mut.follows.lender w) (AtOwner w) c.args.self.now.place
         _ refl c.args.self.now.held (c.handle_mut.follows.holds w),
-    same is_lost (λ place held. record c.args.self.now { place = place; held = held }) c.handle_mut.follows.lender-at-none c.args.self.now.place _ c.args.self.now.held c.handle_mut.follows.holds-at-none,
+    same is_lost (λ place held. record c.args.self.now { place = place; held = held })
+        c.handle_mut.follows.lender-at-none c.args.self.now.place _ c.args.self.now.held
+        c.handle_mut.follows.holds-at-none,
   ),
   c.handle_mut.ensures,
 )

@@ -2,7 +2,9 @@ use Rattle.std.proofs.Common.{◌∙◌, sym, refl, subst, []}
 use Rattle.blocking_core.specs.declared.unblock.PollCall.{PollCall}
 use Rattle.blocking_unblock.specs.Polls.{KeepsOpen}
 use Rattle.blocking_unblock.proofs.Crossings.{first_crosses, reply_crossed}
-use Rattle.blocking_unblock.proofs.Turns.{at_once_kept, closes_only, first_brought, first_kept, first_stands, none_going, open_on, reaches_on, refused_by, same_open, stays_closed}
+use Rattle.blocking_unblock.proofs.Turns.{at_once_kept, closes_only, first_brought, first_kept}
+use Rattle.blocking_unblock.proofs.Turns.{first_stands, none_going, open_on, reaches_on, refused_by}
+use Rattle.blocking_unblock.proofs.Turns.{same_open, stays_closed}
 use Rattle.blocking_unblock.proofs.unblock.Unblock.poll.Goals as goal
 
 pub loop-init : goal.loop-init
@@ -44,26 +46,34 @@ loop-preserved g c = (
 
 pub returns-in-Reply-clause-refused : goal.returns-in-Reply-clause-refused
 returns-in-Reply-clause-refused g c =
-    refused_by _ _ _ _ _ _ _ _ c.loop.invariant.2 (sym c.in-Reply.is ∙ c.next-in-loop.ensures) c.loop.invariant.8
+    refused_by _ _ _ _ _ _ _ _ c.loop.invariant.2 (sym c.in-Reply.is ∙ c.next-in-loop.ensures)
+    c.loop.invariant.8
 
 pub returns-in-Reply-clause-closed : goal.returns-in-Reply-clause-closed
-returns-in-Reply-clause-closed g c = stays_closed _ c.loop.poll _ _ _ _ c.new-poll.ensures c.state.ensures c.loop.invariant.2.at c.loop.invariant.5
+returns-in-Reply-clause-closed g c = stays_closed _ c.loop.poll _ _ _ _ c.new-poll.ensures
+    c.state.ensures c.loop.invariant.2.at c.loop.invariant.5
 
 pub returns-in-Reply-clause-closes : goal.returns-in-Reply-clause-closes
-returns-in-Reply-clause-closes g c = closes_only _ c.loop.poll _ _ _ _ c.new-poll.ensures c.state.ensures c.loop.invariant.2.at c.loop.invariant.5
+returns-in-Reply-clause-closes g c = closes_only _ c.loop.poll _ _ _ _ c.new-poll.ensures
+    c.state.ensures c.loop.invariant.2.at c.loop.invariant.5
 
 pub returns-in-Pending-clause-closed : goal.returns-in-Pending-clause-closed
-returns-in-Pending-clause-closed g c = stays_closed _ c.loop.poll _ _ _ _ c.new-poll.ensures c.state.ensures c.loop.invariant.2.at c.loop.invariant.5
+returns-in-Pending-clause-closed g c = stays_closed _ c.loop.poll _ _ _ _ c.new-poll.ensures
+    c.state.ensures c.loop.invariant.2.at c.loop.invariant.5
 
 pub returns-in-Pending-clause-closes : goal.returns-in-Pending-clause-closes
-returns-in-Pending-clause-closes g c = closes_only _ c.loop.poll _ _ _ _ c.new-poll.ensures c.state.ensures c.loop.invariant.2.at c.loop.invariant.5
+returns-in-Pending-clause-closes g c = closes_only _ c.loop.poll _ _ _ _ c.new-poll.ensures
+    c.state.ensures c.loop.invariant.2.at c.loop.invariant.5
 
 pub returns-in-Reply-clause-at_once : goal.returns-in-Reply-clause-at_once
-returns-in-Reply-clause-at_once g c = at_once_kept _ _ _ _ _ _ c.new-poll.ensures c.state.ensures c.loop.invariant.10
+returns-in-Reply-clause-at_once g c =
+    at_once_kept _ _ _ _ _ _ c.new-poll.ensures c.state.ensures c.loop.invariant.10
 
 pub returns-in-Pending-clause-at_once : goal.returns-in-Pending-clause-at_once
-returns-in-Pending-clause-at_once g c = at_once_kept _ _ _ _ _ _ c.new-poll.ensures c.state.ensures c.loop.invariant.10
+returns-in-Pending-clause-at_once g c =
+    at_once_kept _ _ _ _ _ _ c.new-poll.ensures c.state.ensures c.loop.invariant.10
 
 pub returns-in-Reply-clause-crosses : goal.returns-in-Reply-clause-crosses
 returns-in-Reply-clause-crosses g c =
-    reply_crossed _ _ _ _ _ _ _ c.loop.invariant.2.awake (sym c.in-Reply.is ∙ c.next-in-loop.ensures) c.new-poll.ensures c.loop.invariant.13
+    reply_crossed _ _ _ _ _ _ _ c.loop.invariant.2.awake
+    (sym c.in-Reply.is ∙ c.next-in-loop.ensures) c.new-poll.ensures c.loop.invariant.13

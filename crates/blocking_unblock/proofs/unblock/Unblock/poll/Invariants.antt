@@ -14,9 +14,12 @@ invariant-loop g l =
     × KeepsOpen l.initial.poll.call l.initial.poll.state l.poll.state
     × Keeps l.initial.cx l.cx
     × (length l.out ≡ length l.initial.out)
-    × (IsAt Idle l.initial.self.place → KeepsFirst l.poll.call l.poll.state l.poll.next l.poll.is_at_end l.self.place l.initial.self.place)
+    × (IsAt Idle l.initial.self.place → KeepsFirst l.poll.call l.poll.state l.poll.next
+    l.poll.is_at_end l.self.place l.initial.self.place)
     × KeepsBrought g.B.Lends.keeps l.poll.call l.poll.next l.brought l.initial.brought
-    × (HasReply l.initial.poll.next → (l.poll.next ≡ l.initial.poll.next) × (l.self.place ≡ l.initial.self.place))
+    × (HasReply l.initial.poll.next
+    → (l.poll.next ≡ l.initial.poll.next) × (l.self.place ≡ l.initial.self.place))
     × (l.self.capacity ≡ l.initial.self.capacity)
     × (l.self.executor ≡ l.initial.self.executor)
-    × Crossing l.poll.call l.poll.state l.poll.next l.poll.is_at_end l.self.place (crossed_before l.initial.poll.call l.initial.self.place)
+    × Crossing l.poll.call l.poll.state l.poll.next l.poll.is_at_end l.self.place
+    (crossed_before l.initial.poll.call l.initial.self.place)

@@ -4,7 +4,9 @@ use Rattle.blocking_unblock.proofs.unblock.UnblockAsyncWrite.poll_close.Goals as
 
 pub returns-in-Ready-Failed-clause-follows : goal.returns-in-Ready-Failed-clause-follows
 returns-in-Ready-Failed-clause-follows g c =
-    follows_as c.in-Ready-Failed.field-0-is Close c.args.self.now.place c.poll.new.self.place c.in-Ready-Failed.ensures.follows
+    follows_as c.in-Ready-Failed.field-0-is Close c.args.self.now.place c.poll.new.self.place
+    c.in-Ready-Failed.ensures.follows
 
 pub returns-in-Ready-Failed-clause-fault : goal.returns-in-Ready-Failed-clause-fault
-returns-in-Ready-Failed-clause-fault g c = fits_as c.in-Ready-Failed.field-0-is Close _ _ _ c.in-Ready-Failed.ensures.fits
+returns-in-Ready-Failed-clause-fault g c =
+    fits_as c.in-Ready-Failed.field-0-is Close _ _ _ c.in-Ready-Failed.ensures.fits

@@ -10,4 +10,6 @@ returns c =
     rw (sym c.self.view_is)
     (c.has_job_action.ensures
     ∙ ap (λ (w : Parts). is_job_action (next_at w c.args.worker)) c.parts.ensures
-    ∙ sym (acts_is c.self.inside.assembly.parts.crew.pool.counts.setting c.self.inside.plan.items c.self.inside.assembly (reverse c.self.inside.trace.items) c.self.invariant c.args.worker))
+    ∙ sym (acts_is c.self.inside.assembly.parts.crew.pool.counts.setting c.self.inside.plan.items
+    c.self.inside.assembly (reverse c.self.inside.trace.items) c.self.invariant
+    c.args.worker))

@@ -10,4 +10,5 @@ returns c =
     rw (sym c.self.view_is)
     (c.polls.ensures
     ∙ ap (λ (w : Parts). polls_in (slice_get w.owners c.args.owner)) c.parts.ensures
-    ∙ polls_is c.self.inside.assembly.parts.crew.pool.counts.setting c.self.inside.plan.items c.self.inside.assembly (reverse c.self.inside.trace.items) c.self.invariant c.args.owner)
+    ∙ polls_is c.self.inside.assembly.parts.crew.pool.counts.setting c.self.inside.plan.items
+    c.self.inside.assembly (reverse c.self.inside.trace.items) c.self.invariant c.args.owner)

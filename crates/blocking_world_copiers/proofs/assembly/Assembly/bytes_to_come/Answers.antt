@@ -12,17 +12,30 @@ use Rattle.blocking_world_copiers.proofs.assembly.Assembly.bytes_to_come.Goals a
 pub returns-in-Some : goal.returns-in-Some
 returns-in-Some c =
     let w = the_view c.self.inside in
-    let at : c.place_at-place.result ≡ position_or_len (has_number c.in-Copy.number) w.copiers = c.place_at-place.ensures ∙ ap (position_or_len (has_number c.in-Copy.number)) c.deref.ensures.value in
+    let at : c.place_at-place.result ≡ position_or_len (has_number c.in-Copy.number) w.copiers =
+    c.place_at-place.ensures
+    ∙ ap (position_or_len (has_number c.in-Copy.number)) c.deref.ensures.value in
     let there : slice_get w.copiers c.place_at-place.result ≡ Some c.in-Some.copier.now =
-    rw (← c.deref-in-Copy.ensures.value) (slice_get_read c.deref-in-Copy.result.now (length c.deref-in-Copy.result.now) c.place_at-place.result c.in-Some.copier.now refl c.in-Some.ensures.lookup.3.0 c.in-Some.ensures.lookup.1) in
-    let found : copier_at c.in-Copy.number w.copiers ≡ Some c.in-Some.copier.now = sym (found_is c.in-Copy.number w.copiers) ∙ ap (slice_get w.copiers) (sym at) ∙ there in
-    c.bytes_to_write.ensures ∙ sym (ap bytes_to_copy found) ∙ ap (λ (v : Assembled). bytes_to_copy (copier_at c.in-Copy.number v.copiers)) c.self.view_is ∙ sym (ap (bytes_to_come c.args.self.now) c.in-Copy.is)
+    rw (← c.deref-in-Copy.ensures.value) (slice_get_read c.deref-in-Copy.result.now
+    (length c.deref-in-Copy.result.now) c.place_at-place.result c.in-Some.copier.now refl
+    c.in-Some.ensures.lookup.3.0 c.in-Some.ensures.lookup.1) in
+    let found : copier_at c.in-Copy.number w.copiers ≡ Some c.in-Some.copier.now =
+    sym (found_is c.in-Copy.number w.copiers) ∙ ap (slice_get w.copiers) (sym at) ∙ there in
+    c.bytes_to_write.ensures ∙ sym (ap bytes_to_copy found) ∙ ap
+    (λ (v : Assembled). bytes_to_copy (copier_at c.in-Copy.number v.copiers)) c.self.view_is
+    ∙ sym (ap (bytes_to_come c.args.self.now) c.in-Copy.is)
 
 pub returns-in-None : goal.returns-in-None
 returns-in-None c =
     let w = the_view c.self.inside in
-    let at : c.place_at-place.result ≡ position_or_len (has_number c.in-Copy.number) w.copiers = c.place_at-place.ensures ∙ ap (position_or_len (has_number c.in-Copy.number)) c.deref.ensures.value in
+    let at : c.place_at-place.result ≡ position_or_len (has_number c.in-Copy.number) w.copiers =
+    c.place_at-place.ensures
+    ∙ ap (position_or_len (has_number c.in-Copy.number)) c.deref.ensures.value in
     let none : slice_get w.copiers c.place_at-place.result ≡ None =
-    rw (← c.deref-in-Copy.ensures.value) (slice_get_past c.deref-in-Copy.result.now c.place_at-place.result c.in-None.ensures.lookup.3) in
-    let found : copier_at c.in-Copy.number w.copiers ≡ None = sym (found_is c.in-Copy.number w.copiers) ∙ ap (slice_get w.copiers) (sym at) ∙ none in
-    sym (ap bytes_to_copy found) ∙ ap (λ (v : Assembled). bytes_to_copy (copier_at c.in-Copy.number v.copiers)) c.self.view_is ∙ sym (ap (bytes_to_come c.args.self.now) c.in-Copy.is)
+    rw (← c.deref-in-Copy.ensures.value) (slice_get_past c.deref-in-Copy.result.now
+    c.place_at-place.result c.in-None.ensures.lookup.3) in
+    let found : copier_at c.in-Copy.number w.copiers ≡ None =
+    sym (found_is c.in-Copy.number w.copiers) ∙ ap (slice_get w.copiers) (sym at) ∙ none in
+    sym (ap bytes_to_copy found) ∙ ap
+    (λ (v : Assembled). bytes_to_copy (copier_at c.in-Copy.number v.copiers)) c.self.view_is
+    ∙ sym (ap (bytes_to_come c.args.self.now) c.in-Copy.is)

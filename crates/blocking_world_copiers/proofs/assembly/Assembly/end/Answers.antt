@@ -11,11 +11,16 @@ use Rattle.blocking_world_copiers.proofs.assembly.Assembly.end.Goals as goal
 pub returns : goal.returns
 returns c =
     let w = the_view c.self.inside in
-    let first : c.args.place ≡ position_or_len (has_number c.args.number) w.copiers = c.requires.first ∙ sym (ap (λ (v : Assembled). position_or_len (has_number c.args.number) v.copiers) c.self.view_is) in
-    let within : c.args.place < length w.copiers = subst (λ (v : Assembled). c.args.place < length v.copiers) (sym c.self.view_is) c.requires.there in
+    let first : c.args.place ≡ position_or_len (has_number c.args.number) w.copiers =
+    c.requires.first ∙ sym (ap (λ (v : Assembled).
+    position_or_len (has_number c.args.number) v.copiers) c.self.view_is) in
+    let within : c.args.place < length w.copiers =
+    subst (λ (v : Assembled). c.args.place < length v.copiers) (sym c.self.view_is)
+    c.requires.there in
     rw (sym c.self.view_is)
     (record {
       moves = c.note.ensures (Copy c.args.number);
-      copiers = c.remove-told.ensures.items ∙ ap (remove w.copiers) first ∙ removed_is c.args.number w.copiers (subst (λ n. n < length w.copiers) first within);
+      copiers = c.remove-told.ensures.items ∙ ap (remove w.copiers) first
+          ∙ removed_is c.args.number w.copiers (subst (λ n. n < length w.copiers) first within);
       made = refl;
     })

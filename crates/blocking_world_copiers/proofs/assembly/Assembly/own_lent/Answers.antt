@@ -10,11 +10,16 @@ use Rattle.blocking_world_copiers.proofs.assembly.Assembly.own_lent.Goals as goa
 pub returns-clause-ok : goal.returns-clause-ok
 returns-clause-ok g c =
     let w = the_view c.self.inside in
-    let first = c.requires.first ∙ sym (ap (λ (v : Assembled). position_or_len (belongs c.args.owner) v.copiers) c.self.view_is) in
-    let within : c.args.place < length w.copiers = subst (λ (v : Assembled). c.args.place < length v.copiers) (sym c.self.view_is) c.requires.there in
+    let first = c.requires.first ∙ sym
+    (ap (λ (v : Assembled). position_or_len (belongs c.args.owner) v.copiers) c.self.view_is) in
+    let within : c.args.place < length w.copiers =
+    subst (λ (v : Assembled). c.args.place < length v.copiers) (sym c.self.view_is)
+    c.requires.there in
     rw (sym c.self.view_is)
     (record {
       steps = c.in_ok-event.ensures.ok;
-      copiers = heard_at c.args.owner c.in_ok-event.event.act w.copiers c.args.place c.index_mut.result.now c.hear.new.self first within c.index_mut.ensures.value c.hear.ensures;
+      copiers = heard_at c.args.owner c.in_ok-event.event.act w.copiers
+          c.args.place c.index_mut.result.now c.hear.new.self first within c.index_mut.ensures.value
+          c.hear.ensures;
       made = refl;
     })

@@ -8,7 +8,8 @@ use Rattle.blocking_world_laws.proofs.laws.whole.limits_of_clients.Goals as goal
 pub returns-clause-told : goal.returns-clause-told
 returns-clause-told c = λ past now limit e. ap (λ act. client_limit_by act (client_limit past)) e
 
-left : (act : Act) (before : Option ℕ) → ((limit : Option ℕ) → act ≡ ClientLimitSet limit → ⊥) → client_limit_by act before ≡ before
+left : (act : Act) (before : Option ℕ) → ((limit : Option ℕ) → act ≡ ClientLimitSet limit → ⊥)
+    → client_limit_by act before ≡ before
 left (ClientLimitSet limit) before other = absurd (other limit refl)
 left _ before other = refl
 

@@ -13,4 +13,5 @@ pub returns-clause-entered : goal.returns-clause-entered
 returns-clause-entered c = unlimited_so
 
 pub returns-clause-in_order : goal.returns-clause-in_order
-returns-clause-in_order c = λ setting plan past laws free. (queue past, unlimited_so setting plan past laws free)
+returns-clause-in_order c =
+    λ setting plan past laws free. (queue past, unlimited_so setting plan past laws free)

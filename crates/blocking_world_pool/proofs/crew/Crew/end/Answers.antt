@@ -13,9 +13,18 @@ returns c =
       move = EndsTurn c.args.worker c.in-Some.held c.end-pass.result;
       may = held_is may_end _ c.in-Some.held c.in-Some.ensures.held;
       call_is = refl;
-      event_is = cc (c.seen.ensures, c.serial-serial.ensures, c.job.ensures, c.standing.ensures, c.outcome-outcome.ensures, c.next_start-first.ensures, c.self.view_is);
+      event_is = cc (
+        c.seen.ensures,
+        c.serial-serial.ensures,
+        c.job.ensures,
+        c.standing.ensures,
+        c.outcome-outcome.ensures,
+        c.next_start-first.ensures,
+        c.self.view_is,
+      );
       after_is =
-          let row = refilled c.self.inside.workers c.over.new.self c.args.worker c.in-Some.ensures.after c.put.new.self _ c.put.ensures in
+          let row = refilled c.self.inside.workers c.over.new.self c.args.worker
+          c.in-Some.ensures.after c.put.new.self _ c.put.ensures in
           cc (row, c.end-pass.ensures);
     })
 
@@ -23,12 +32,16 @@ pub invariant_of-self-2 : goal.invariant_of-self-2
 invariant_of-self-2 c = moved_ready c.self.invariant c.self.view_is (returns c)
 
 pub put-requires : goal.put-requires
-put-requires c = held_is_out c.self.inside.workers c.over.new.self c.args.worker c.in-Some.ensures.after may_end c.in-Some.held c.in-Some.ensures.held
+put-requires c = held_is_out c.self.inside.workers c.over.new.self c.args.worker
+    c.in-Some.ensures.after may_end c.in-Some.held c.in-Some.ensures.held
 
 pub end-pass-requires : goal.end-pass-requires
-end-pass-requires c = c.self.invariant.runs c.args.worker c.in-Some.held (held_runs (the_view c.self.inside) c.args.worker may_end c.in-Some.held c.in-Some.ensures.held)
+end-pass-requires c = c.self.invariant.runs c.args.worker c.in-Some.held
+    (held_runs (the_view c.self.inside) c.args.worker may_end c.in-Some.held c.in-Some.ensures.held)
 
 pub returns-in_default : goal.returns-in_default
 returns-in_default c =
     rw (sym c.self.view_is)
-    (idles NeverAsked (End c.args.worker) (the_view c.self.inside) c.over.new.self (ap is_some (sym c.in_default.ensures.held)) c.in_default.ensures.after (c.next_start-first.ensures ∙ ap next_start (sym c.self.view_is)) c.nothing.ensures)
+    (idles NeverAsked (End c.args.worker) (the_view c.self.inside) c.over.new.self
+    (ap is_some (sym c.in_default.ensures.held)) c.in_default.ensures.after
+    (c.next_start-first.ensures ∙ ap next_start (sym c.self.view_is)) c.nothing.ensures)

@@ -4,4 +4,10 @@ use Rattle.blocking_world_pool.proofs.Words.{Tells}
 use Rattle.blocking_world_pool.proofs.crew.Crew.nothing.Goals as goal
 
 pub returns-clause-moves : goal.returns-clause-moves
-returns-clause-moves c = record { move = Tells c.args.party NoAction; may = refl; call_is = refl; event_is = cc (c.nothing.ensures, c.next_start.ensures); after_is = refl }
+returns-clause-moves c = record {
+  move = Tells c.args.party NoAction;
+  may = refl;
+  call_is = refl;
+  event_is = cc (c.nothing.ensures, c.next_start.ensures);
+  after_is = refl;
+}

@@ -6,7 +6,17 @@ use Rattle.blocking_world_pool.proofs.ready.Moves.{moved_ready}
 pub returns : goal.returns
 returns g c =
     rw (sym c.self.view_is)
-    (record { move = Sweeps c.sweep-count.result.1 c.sweep-count.new.self; may = c.sweep-count.ensures.after; call_is = refl; event_is = cc (c.seen.ensures, c.sweep-count.ensures.count, c.next_start-first.ensures); after_is = refl })
+    (record {
+      move = Sweeps c.sweep-count.result.1 c.sweep-count.new.self;
+      may = c.sweep-count.ensures.after;
+      call_is = refl;
+      event_is = cc (
+        c.seen.ensures,
+        c.sweep-count.ensures.count,
+        c.next_start-first.ensures,
+      );
+      after_is = refl;
+    })
 
 pub invariant_of-self : goal.invariant_of-self
 invariant_of-self g c = moved_ready c.self.invariant c.self.view_is (returns g c)

@@ -9,7 +9,8 @@ loop-self-init g c =
 
 pub loop-self-preserved : goal.loop-self-preserved
 loop-self-preserved g c = (
-  passes_on c.set_client_limit.new.self c.loop-self.self c.pass_over-pass.new.self c.loop-self.invariant.0 c.pass_over-pass.ensures.passed,
+  passes_on c.set_client_limit.new.self c.loop-self.self c.pass_over-pass.new.self
+      c.loop-self.invariant.0 c.pass_over-pass.ensures.passed,
   c.pass_over-pass.ensures.limit ∙ c.loop-self.invariant.1,
 )
 
@@ -21,4 +22,5 @@ loop-self-smaller g c =
     omega (arith, shorter, some, queued)
 
 pub returns-clause-passed : goal.returns-clause-passed
-returns-clause-passed g c = passed_unlimited c.args.self.now c.set_client_limit.new.self c.loop-self.self c.set_client_limit.ensures c.loop-self.invariant.0
+returns-clause-passed g c = passed_unlimited c.args.self.now c.set_client_limit.new.self
+    c.loop-self.self c.set_client_limit.ensures c.loop-self.invariant.0

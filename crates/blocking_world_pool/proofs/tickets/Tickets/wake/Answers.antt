@@ -7,7 +7,8 @@ use Rattle.blocking_world_pool.proofs.tickets.Tickets.wake.Goals as goal
 pub next_after-self-inside-requires : goal.next_after-self-inside-requires
 next_after-self-inside-requires g c =
     let entered =
-    enters_again (asked g.S.Starter c.args.starter.now c.wake-woke.new.starter) c.args.self.now c.wake-woke.new.self (c.args.note.serial ∷ []) c.growth_since-growth.result
+    enters_again (asked g.S.Starter c.args.starter.now c.wake-woke.new.starter) c.args.self.now
+    c.wake-woke.new.self (c.args.note.serial ∷ []) c.growth_since-growth.result
     (rw (c.self.view_is, c.in-Entered.is) at c.wake-woke.ensures.answer).effect (cc, cc) in
     let next : c.self.inside.next_start ≡ c.args.self.now.counts.next_worker = cc in
     omega (arith, numbers_last _ _ _ _ _ _ _ entered.starts, next)
@@ -17,7 +18,9 @@ returns g c =
     let woken = rw (c.self.view_is, c.in-Entered.is) at c.wake-woke.ensures.answer in
     record {
       answer = woken.answer;
-      effect = enters_again (asked g.S.Starter c.args.starter.now c.wake-woke.new.starter) c.args.self.now c.wake-woke.new.self (c.args.note.serial ∷ []) c.growth_since-growth.result woken.effect (cc, cc);
+      effect = enters_again (asked g.S.Starter c.args.starter.now c.wake-woke.new.starter)
+          c.args.self.now c.wake-woke.new.self (c.args.note.serial ∷ [])
+          c.growth_since-growth.result woken.effect (cc, cc);
     }
 
 pub invariant_of-self-2 : goal.invariant_of-self-2

@@ -7,4 +7,6 @@ use Rattle.blocking_world_state.proofs.parts.Parts.arrive.Goals as goal
 
 pub returns-clause-ok : goal.returns-clause-ok
 returns-clause-ok c =
-    rw (sym c.self.view_is) (ok_map c.arrive.result _ _ (λ e does. passes NeverAsked (the_view c.self.inside) crew.Arrive e c.arrive.new.self refl tt does) c.arrive.ensures.ok)
+    rw (sym c.self.view_is)
+    (ok_map c.arrive.result _ _ (λ e does. passes NeverAsked (the_view c.self.inside)
+    crew.Arrive e c.arrive.new.self refl tt does) c.arrive.ensures.ok)

@@ -15,5 +15,7 @@ returns-clause-ok c =
     let many : c.len-place.result ≡ length w.owners = omega (arith, told, len, kept) in
     rw (sym c.self.view_is)
     (made w c.args.capacity c.args.client c.push.new.self.items c.tell.result
-    (c.in-Ok.ensures.items ∙ ap (λ l. l ++ c.new.result ∷ []) c.reserve.ensures.items ∙ ap (λ o. w.owners ++ o ∷ []) c.new.ensures)
-    (subst (λ n. crew.Moves NeverAsked (crew.Tell (ByOwner n) (Made n c.args.capacity)) w.crew c.tell.result w.crew) many c.tell.ensures))
+    (c.in-Ok.ensures.items ∙ ap (λ l. l ++ c.new.result ∷ []) c.reserve.ensures.items
+    ∙ ap (λ o. w.owners ++ o ∷ []) c.new.ensures)
+    (subst (λ n. crew.Moves NeverAsked (crew.Tell (ByOwner n) (Made n c.args.capacity)) w.crew
+    c.tell.result w.crew) many c.tell.ensures))

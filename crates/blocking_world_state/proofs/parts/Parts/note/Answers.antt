@@ -8,4 +8,5 @@ pub tell-requires : goal.tell-requires
 tell-requires c = (note_is c.args.party c.args.act c.requires).aside
 
 pub returns : goal.returns
-returns c = λ asked. rw (sym c.self.view_is) (noted (the_view c.self.inside) asked c.args.party c.args.act c.tell.result c.requires c.tell.ensures)
+returns c = λ asked. rw (sym c.self.view_is) (noted (the_view c.self.inside) asked c.args.party
+    c.args.act c.tell.result c.requires c.tell.ensures)

@@ -6,4 +6,6 @@ use Rattle.blocking_world_state.proofs.moves.Steps.{passes}
 use Rattle.blocking_world_state.proofs.parts.Parts.set_client_limit.Goals as goal
 
 pub returns : goal.returns
-returns c = rw (sym c.self.view_is) (passes NeverAsked (the_view c.self.inside) (crew.SetClientLimit c.args.limit) c.set_client_limit.result c.set_client_limit.new.self refl tt c.set_client_limit.ensures)
+returns c = rw (sym c.self.view_is)
+    (passes NeverAsked (the_view c.self.inside) (crew.SetClientLimit c.args.limit)
+    c.set_client_limit.result c.set_client_limit.new.self refl tt c.set_client_limit.ensures)

@@ -5,4 +5,5 @@ use Rattle.blocking_world_state.proofs.moves.Steps.{passes}
 use Rattle.blocking_world_state.proofs.parts.Parts.sweep.Goals as goal
 
 pub returns : goal.returns
-returns g c = rw (sym c.self.view_is) (passes (g.S.Starter.may_answer c.args.starter.now) (the_view c.self.inside) crew.Sweep c.sweep.result c.sweep.new.self refl tt c.sweep.ensures)
+returns g c = rw (sym c.self.view_is) (passes (g.S.Starter.may_answer c.args.starter.now)
+    (the_view c.self.inside) crew.Sweep c.sweep.result c.sweep.new.self refl tt c.sweep.ensures)

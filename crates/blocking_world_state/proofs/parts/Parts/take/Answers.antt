@@ -5,4 +5,6 @@ use Rattle.blocking_world_state.proofs.moves.Steps.{passes}
 use Rattle.blocking_world_state.proofs.parts.Parts.take.Goals as goal
 
 pub returns : goal.returns
-returns g c = rw (sym c.self.view_is) (passes (g.S.Starter.may_answer c.args.starter.now) (the_view c.self.inside) (crew.Take c.args.worker) c.take.result c.take.new.self refl tt c.take.ensures)
+returns g c = rw (sym c.self.view_is)
+    (passes (g.S.Starter.may_answer c.args.starter.now) (the_view c.self.inside)
+    (crew.Take c.args.worker) c.take.result c.take.new.self refl tt c.take.ensures)

@@ -5,4 +5,6 @@ use Rattle.blocking_world_state.proofs.moves.Steps.{passes}
 use Rattle.blocking_world_state.proofs.parts.Parts.wait.Goals as goal
 
 pub returns : goal.returns
-returns g c = rw (sym c.self.view_is) (passes (g.S.Starter.may_answer c.args.starter.now) (the_view c.self.inside) (crew.Wait c.args.worker c.args.end) c.wait.result c.wait.new.self refl tt c.wait.ensures)
+returns g c = rw (sym c.self.view_is)
+    (passes (g.S.Starter.may_answer c.args.starter.now) (the_view c.self.inside)
+    (crew.Wait c.args.worker c.args.end) c.wait.result c.wait.new.self refl tt c.wait.ensures)

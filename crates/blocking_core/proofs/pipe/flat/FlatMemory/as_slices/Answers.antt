@@ -6,4 +6,5 @@ pub returns : goal.returns
 returns c =
     let s = c.args.self.now in
     rw (c.deref.ensures.value, c.deref-2.ensures.value)
-    (window_parts _ _ _ _ s.bytes.items s.bytes.ok.0 s.start_in s.len_in s.written_in s.in_order c.min-first.result _ (omega arith) refl)
+    (window_parts _ _ _ _ s.bytes.items s.bytes.ok.0 s.start_in s.len_in s.written_in s.in_order
+    c.min-first.result _ (omega arith) refl)

@@ -6,4 +6,6 @@ returns-clause-items c =
     let s = c.args.self.now in
     let after = c.place_after-end.ensures in
     rw c.write_at.ensures.items
-    (window_after_write _ _ _ _ s.bytes.items s.bytes.ok.0 s.start_in s.len_in s.written_in s.in_order c.place_after-end.result c.args.items.now c.requires.room c.requires.straight after.straight after.round)
+    (window_after_write _ _ _ _ s.bytes.items s.bytes.ok.0 s.start_in s.len_in s.written_in
+    s.in_order c.place_after-end.result c.args.items.now c.requires.room c.requires.straight
+    after.straight after.round)

@@ -9,13 +9,17 @@ invariant_of-self-2-clause-row g c =
     let left = c.min-left.result in
     let at = sym c.pop_front.ensures.value ∙ c.in-Some.is in
     rw c.pop_front.ensures.items
-    (passed vec_items s.pieces.items c.in-Some.first s.piece s.gone s.len left s.row s.count.before at c.min-left.ensures).0
+    (passed vec_items s.pieces.items c.in-Some.first s.piece s.gone s.len left s.row s.count.before
+    at c.min-left.ensures).0
 
 pub invariant_of-self-2-clause-memory : goal.invariant_of-self-2-clause-memory
 invariant_of-self-2-clause-memory g c =
     let s = c.args.self.now in
     let first = c.in-Some.first in
     let at = sym c.pop_front.ensures.value ∙ c.in-Some.is in
-    let memory = memory_spent vec_capacity s.pieces.items s.spent.items first s.piece s.pieces.capacity (vec_capacity s.spent) s.memory
-    (slice_get_within s.pieces.items 0 first at) (room_inside vec_capacity s.pieces.items s.piece 0 first s.memory.inside at) in
-    rw (c.pop_front.ensures.items, c.push_reserved.ensures.items, c.push_reserved.ensures.capacity) memory
+    let memory = memory_spent vec_capacity s.pieces.items s.spent.items first s.piece
+    s.pieces.capacity (vec_capacity s.spent) s.memory
+    (slice_get_within s.pieces.items 0 first at)
+    (room_inside vec_capacity s.pieces.items s.piece 0 first s.memory.inside at) in
+    rw (c.pop_front.ensures.items, c.push_reserved.ensures.items, c.push_reserved.ensures.capacity)
+    memory

@@ -10,7 +10,8 @@ loop-start-preserved g c =
     record {
       within = omega arith;
       items = ap (λ stored. stored.items) said
-          ∙ more_put (drop now.gone (flat_map vec_items now.pieces.items)) (drop then.gone (flat_map vec_items then.pieces.items)) c.args.items.now
+          ∙ more_put (drop now.gone (flat_map vec_items now.pieces.items))
+          (drop then.gone (flat_map vec_items then.pieces.items)) c.args.items.now
           c.loop-start.start c.append-start.result c.loop-start.invariant.items;
       capacity = ap (λ stored. stored.capacity) said ∙ c.loop-start.invariant.capacity;
     }

@@ -5,7 +5,8 @@ abbrev pub invariant-loop-start : goal.invariant-loop-start
 invariant-loop-start g l = record {
   within : l.start ≤ length l.items;
   items : drop l.memory.gone (flat_map vec_items l.memory.pieces.items)
-      ≡ drop l.initial.memory.gone (flat_map vec_items l.initial.memory.pieces.items) ++ take l.start l.items;
+      ≡ drop l.initial.memory.gone (flat_map vec_items l.initial.memory.pieces.items)
+      ++ take l.start l.items;
   capacity : l.memory.capacity ≡ l.initial.memory.capacity;
 }
 

@@ -5,7 +5,8 @@ abbrev pub invariant-loop-left : goal.invariant-loop-left
 invariant-loop-left g l = record {
   within : l.left ≤ l.count;
   items : drop l.memory.gone (flat_map vec_items l.memory.pieces.items)
-      ≡ drop (l.count - l.left) (drop l.initial.memory.gone (flat_map vec_items l.initial.memory.pieces.items));
+      ≡ drop (l.count - l.left)
+      (drop l.initial.memory.gone (flat_map vec_items l.initial.memory.pieces.items));
   capacity : l.memory.capacity ≡ l.initial.memory.capacity;
 }
 

@@ -7,8 +7,13 @@ use Rattle.blocking_pool.proofs.pool.clients.Clients.start.Goals as goal
 
 pub overflow_add-self : goal.overflow_add-self
 overflow_add-self c =
-    let left = subst (λ (k : Client). k.running < greatest) (unnamed_is c.args.self.now ((c.self.inside.recent.name, c.self.inside.recent.state) ∷ c.self.inside.named.entries) c.self.inside.unnamed _ c.args.client c.self.view_is c.if-client-eq0.true) c.requires.left in
+    let left = subst (λ (k : Client). k.running < greatest) (unnamed_is c.args.self.now
+    ((c.self.inside.recent.name, c.self.inside.recent.state) ∷ c.self.inside.named.entries)
+    c.self.inside.unnamed _ c.args.client c.self.view_is c.if-client-eq0.true)
+    c.requires.left in
     omega (arith, left)
 
 pub returns-then-client-eq0 : goal.returns-then-client-eq0
-returns-then-client-eq0 c = unnamed_set c.args.self.now ((c.self.inside.recent.name, c.self.inside.recent.state) ∷ c.self.inside.named.entries) c.self.inside.unnamed _ c.args.client c.self.view_is c.if-client-eq0.true _ with_running refl
+returns-then-client-eq0 c = unnamed_set c.args.self.now
+    ((c.self.inside.recent.name, c.self.inside.recent.state) ∷ c.self.inside.named.entries)
+    c.self.inside.unnamed _ c.args.client c.self.view_is c.if-client-eq0.true _ with_running refl

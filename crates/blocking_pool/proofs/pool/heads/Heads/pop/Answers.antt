@@ -10,9 +10,11 @@ pub returns : goal.returns
 returns c =
     let seen = ap (λ (v : Heads). v.heads) c.self.view_is in
     let space = ap (λ (v : Heads). v.room) c.self.view_is in (
-      subst (λ (hs : List Head). IsPermutation hs (c.in_ok-head.field-0.0 ∷ map (λ head. head.0) (heap_items c.pop.new.self))) seen
+      subst (λ (hs : List Head). IsPermutation hs
+          (c.in_ok-head.field-0.0 ∷ map (λ head. head.0) (heap_items c.pop.new.self))) seen
           (IsPermutation-map (λ head. head.0) _ _ c.in_ok-head.ensures.permutation),
       subst (λ (hs : List Head). All (λ other. c.in_ok-head.field-0.0.0 ≤ other.0) hs) seen
-          (least_of c.in_ok-head.field-0 (heap_items c.self.inside.heap) (c.in_ok-head.ensures.heap_order c.self.invariant).1),
+          (least_of c.in_ok-head.field-0 (heap_items c.self.inside.heap)
+          (c.in_ok-head.ensures.heap_order c.self.invariant).1),
       c.pop.ensures.capacity ∙ space,
     )

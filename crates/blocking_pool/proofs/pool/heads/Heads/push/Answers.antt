@@ -6,5 +6,7 @@ use Rattle.blocking_pool.proofs.pool.heads.Heads.push.Goals as goal
 
 pub returns-clause-heads : goal.returns-clause-heads
 returns-clause-heads c =
-    subst (λ (hs : List Head). IsPermutation ((c.args.number, c.args.client) ∷ hs) (map (λ head. head.0) (heap_items c.push.new.self))) (ap (λ (v : Heads). v.heads) c.self.view_is)
+    subst (λ (hs : List Head). IsPermutation
+    ((c.args.number, c.args.client) ∷ hs) (map (λ head. head.0) (heap_items c.push.new.self)))
+    (ap (λ (v : Heads). v.heads) c.self.view_is)
     (IsPermutation-map (λ head. head.0) _ _ c.in-Ok.ensures.permutation)

@@ -8,4 +8,6 @@ use Rattle.blocking_pool.proofs.pool.queue.Queue.make_seat.Goals as goal
 pub returns-then-knows-clause-room : goal.returns-then-knows-clause-room
 returns-then-knows-clause-room c =
     ap (λ v. has_seat v c.args.client) (sym c.self.view_is)
-    ∙ ap (λ b. b || nat_lt 0 (min c.self.inside.clients.spare (c.self.inside.heads.room - len c.self.inside.clients.known))) (seat_is c.self.inside.clients.known c.args.client ∙ sym c.knows.ensures ∙ c.if-knows.true)
+    ∙ ap (λ b. b || nat_lt 0 (min c.self.inside.clients.spare
+    (c.self.inside.heads.room - len c.self.inside.clients.known)))
+    (seat_is c.self.inside.clients.known c.args.client ∙ sym c.knows.ensures ∙ c.if-knows.true)

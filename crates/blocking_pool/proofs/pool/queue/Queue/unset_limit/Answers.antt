@@ -6,8 +6,11 @@ use Rattle.blocking_pool.proofs.pool.queue.Queue.unset_limit.Goals as goal
 
 pub clear_lines-requires-clause-owned : goal.clear_lines-requires-clause-owned
 clear_lines-requires-clause-owned c =
-    subst (λ spots. HaveLinesOf spots c.self.inside.clients.known c.self.inside.places.places) (sym c.deref.ensures.value)
-    (lined_owned _ _ _ _ _ _ _ (lined_of _ _ _ _ _ _ _ c.self.invariant (some_of c.self.inside.limit (c.is_none.ensures ∙ ap not c.if-is_none.false))))
+    subst (λ spots. HaveLinesOf spots c.self.inside.clients.known c.self.inside.places.places)
+    (sym c.deref.ensures.value)
+    (lined_owned _ _ _ _ _ _ _ (lined_of _ _ _ _ _ _ _ c.self.invariant
+    (some_of c.self.inside.limit (c.is_none.ensures ∙ ap not c.if-is_none.false))))
 
 pub returns-clause-same : goal.returns-clause-same
-returns-clause-same c = holds_counts _ _ _ _ _ _ _ _ _ c.self.view_is refl c.clear_lines.ensures.same
+returns-clause-same c =
+    holds_counts _ _ _ _ _ _ _ _ _ c.self.view_is refl c.clear_lines.ensures.same
