@@ -110,6 +110,9 @@ def definitions_of(text):
     """The definitions of a file of specs: each with all lines up to the next."""
     name, lines = None, []
     for line in text.splitlines():
+        if line.startswith("pub use "):
+            yield from ((f"use {path}", [path]) for path in used(line.removeprefix("pub use ")))
+            continue
         found = DEFINED.match(line)
         if found or line.startswith("use "):
             if name:
@@ -120,13 +123,19 @@ def definitions_of(text):
         yield name, lines
 
 
+def unbroken(lines):
+    """The lines as one, as the layout has what stands on one line: no space inside brackets, and no sign behind their last part."""
+    text = re.sub(r"([(\[{]) ", r"\1", " ".join(plain(lines)))
+    return [re.sub(r"[,;]? ?([)\]}])", r"\1", text)]
+
+
 def specs(files):
     """The definitions of each crate's specs. Those of blocking_world_laws are laws."""
     for path, text in files.items():
         found = re.match(r"crates/(\w+)/specs/(.*)\.antt$", path)
         if found:
             of = "laws" if found[1] == "blocking_world_laws" else "definitions"
-            yield from ((of, f"{found[1]} {found[2]}.{name}", lines) for name, lines in definitions_of(text))
+            yield from ((of, f"{found[1]} {found[2]}.{name}", unbroken(lines)) for name, lines in definitions_of(text))
 
 
 def laws(files):
