@@ -1,7 +1,7 @@
 //! A copy of a file to another.
-ghost use Rattle.std.specs.Prelude.{◌≡◌, false, IfOk, IfErr, IsNone, IsSomeAnd};
+ghost use Rattle.std.specs.Prelude.{◌≡◌, false, IfOk, IfErr, IfSome, IsNone, IsSome, IsSomeAnd};
 ghost use Rattle.futures.specs.Poll.{IfReady, OnPending};
-ghost use Rattle.futures.specs.Task.{Covers, Keeps};
+ghost use Rattle.futures.specs.Task.{Covers, IsArmed, Keeps};
 ghost use Rattle.std.specs.Option.{ForSome};
 ghost use Rattle.blocking_io.specs.CopySteps.{is_over};
 
@@ -61,7 +61,9 @@ impl<H: Runtime, J: Job + Carries<ReadJob<Shared, H>> + Carries<WriteJob<Shared,
     ) -> Poll<io::Result<Copier<File<H, J>, File<H, J>>>>
         ensures going { IfReady result (λ r. IfOk r (λ copier. is_over copier.core.next ≡ false)) }
         ensures same { self.new.copier ≡ self.old.copier }
-        ensures registered { OnPending result (Covers cx.new (λ _. ⊥)) }
+        ensures seated { OnPending result (IfSome self.new.task.task (λ task. IsSome task.asked)) }
+        ensures registered { OnPending result
+            (Covers cx.new (λ source. IsSomeAnd self.new.task.task (λ task. source ≡ task.source.id))) }
         ensures kept { Keeps cx.old cx.new }
     {
         match self.task.poll(cx) {
@@ -88,7 +90,10 @@ impl<H: Runtime, J: Job + Carries<ReadJob<Shared, H>> + Carries<WriteJob<Shared,
 
     fn poll(&mut self, cx: &mut Context<'_>) -> Poll<io::Result<u64>>
         ensures over { IfReady result (λ _. IsNone self.new.copier) }
-        ensures registered { OnPending result (Covers cx.new (λ _. ⊥)) }
+        ensures armed { OnPending result (IsArmed cx.new) }
+        ensures seated { OnPending result (IsNone self.new.copier → IfSome self.new.task.task (λ task. IsSome task.asked)) }
+        ensures registered { OnPending result (IsNone self.new.copier →
+            Covers cx.new (λ source. IsSomeAnd self.new.task.task (λ task. source ≡ task.source.id))) }
         ensures kept { Keeps cx.old cx.new }
     {
         if self.copier.is_none() {

@@ -1,5 +1,5 @@
 //! The entries of a directory.
-ghost use Rattle.std.specs.Prelude.{◌≡◌, ◌<◌, IfOk, IfErr, IsNone, IsSomeAnd};
+ghost use Rattle.std.specs.Prelude.{◌≡◌, ◌<◌, ◌↔◌, IfOk, IfErr, IfSome, IsNone, IsSome, IsSomeAnd};
 ghost use Rattle.blocking_core.specs.declared.unblock.State.TheVariants.{Idle};
 ghost use Rattle.blocking_unblock.specs.Owners.{IsAt};
 ghost use Rattle.blocking_files.specs.Told.{IsFlat};
@@ -57,7 +57,7 @@ fn flat<X>(polled: Poll<Option<Result<io::Result<X>, Refusal>>>) -> Poll<Option<
 impl<H: Runtime, J: Job + Carries<ItemJob<Box<ReadDir>, io::Result<DirEntry>, H>>> Stream
     for Entries<H, J> {
     ghost use Rattle.futures.specs.Poll.{OnPending};
-    ghost use Rattle.futures.specs.Task.{Covers, Keeps};
+    ghost use Rattle.futures.specs.Task.{IsArmed, Keeps};
     ghost use Rattle.blocking_core.specs.declared.unblock.PollCall.TheVariants.{Next as NextCall};
     ghost use Rattle.blocking_unblock.specs.Owners.{Follows, reply_of_next};
 
@@ -67,7 +67,7 @@ impl<H: Runtime, J: Job + Carries<ItemJob<Box<ReadDir>, io::Result<DirEntry>, H>
     fn poll_next(&mut self, cx: &mut Context<'_>) -> Poll<Option<io::Result<DirEntry>>>
         ensures follows { (polled : _) × IsFlat polled result
             × Follows NextCall self.old.owner.owner.place (reply_of_next polled) self.new.owner.owner.place }
-        ensures registered { OnPending result (Covers cx.new (λ _. ⊥)) }
+        ensures armed { OnPending result (IsArmed cx.new) }
         ensures kept { Keeps cx.old cx.new }
     {
         flat(self.owner.poll_next(cx))
@@ -108,12 +108,22 @@ impl<H: Runtime, J: Job + Carries<CallJob<List, H>>> Listing<H, J> {
 }
 
 impl<H: Runtime, J: Job> Future for Listing<H, J> {
+    ghost use Rattle.futures.specs.Poll.{IfReady, OnPending};
+    ghost use Rattle.futures.specs.Task.{Covers, Keeps};
+
     type Output = io::Result<Entries<H, J>>;
 
     // The directory is with its owner: no session is under way.
     ghost gives = { λ _ out. IfOk out (λ listed. IsAt Idle listed.owner.owner.place) };
 
-    fn poll(&mut self, cx: &mut Context<'_>) -> Poll<io::Result<Entries<H, J>>> {
+    fn poll(&mut self, cx: &mut Context<'_>) -> Poll<io::Result<Entries<H, J>>>
+        ensures idle { IfReady result (λ r. IfOk r (λ listed. IsAt Idle listed.owner.owner.place)) }
+        ensures waits { OnPending result (IsSome self.new.task.task ↔ IsSome self.old.task.task) }
+        ensures seated { OnPending result (IfSome self.new.task.task (λ task. IsSome task.asked)) }
+        ensures registered { OnPending result
+            (Covers cx.new (λ source. IsSomeAnd self.new.task.task (λ task. source ≡ task.source.id))) }
+        ensures kept { Keeps cx.old cx.new }
+    {
         match self.task.poll(cx) {
             Poll::Pending => Poll::Pending,
             Poll::Ready(Err(why)) => Poll::Ready(Err(why)),

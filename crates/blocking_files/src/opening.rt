@@ -1,5 +1,5 @@
 //! A file that is being opened.
-ghost use Rattle.std.specs.Prelude.{◌≡◌, IfOk, IfErr, IsNone, IsSomeAnd};
+ghost use Rattle.std.specs.Prelude.{◌≡◌, ◌↔◌, IfOk, IfErr, IfSome, IsNone, IsSome, IsSomeAnd};
 ghost use Rattle.blocking_core.specs.declared.unblock.State.TheVariants.{Idle};
 ghost use Rattle.blocking_unblock.specs.Owners.{IsAt};
 
@@ -50,12 +50,22 @@ impl<H: Runtime, J: Job + Carries<CallJob<Open, H>>> Opening<H, J> {
 }
 
 impl<H: Runtime, J: Job> Future for Opening<H, J> {
+    ghost use Rattle.futures.specs.Poll.{IfReady, OnPending};
+    ghost use Rattle.futures.specs.Task.{Covers, Keeps};
+
     type Output = io::Result<File<H, J>>;
 
     // The file is with its owner: no session is under way.
     ghost gives = { λ _ out. IfOk out (λ file. IsAt Idle file.owner.owner.place) };
 
-    fn poll(&mut self, cx: &mut Context<'_>) -> Poll<io::Result<File<H, J>>> {
+    fn poll(&mut self, cx: &mut Context<'_>) -> Poll<io::Result<File<H, J>>>
+        ensures idle { IfReady result (λ r. IfOk r (λ file. IsAt Idle file.owner.owner.place)) }
+        ensures waits { OnPending result (IsSome self.new.task.task ↔ IsSome self.old.task.task) }
+        ensures seated { OnPending result (IfSome self.new.task.task (λ task. IsSome task.asked)) }
+        ensures registered { OnPending result
+            (Covers cx.new (λ source. IsSomeAnd self.new.task.task (λ task. source ≡ task.source.id))) }
+        ensures kept { Keeps cx.old cx.new }
+    {
         match self.task.poll(cx) {
             Poll::Pending => Poll::Pending,
             Poll::Ready(Err(why)) => Poll::Ready(Err(why)),
