@@ -1,6 +1,6 @@
 //! Calls in sets and in pairs.
 use crate::walker::bytes_in;
-use blocking::{Call, CallJob, Executor, Host, unblock};
+use blocking::{Call, CallJob, Carries, Executor, Host, Job, unblock};
 use blocking_anytime::{CallSet, FusedTask};
 use futures::StreamExt;
 use futures::executor::block_on;
@@ -26,14 +26,21 @@ impl Call for Double {
     }
 }
 
+// What is tested stands over any pool of such calls, which costs less to prove (docs/GATE.md).
 type Doublers<H> = Executor<CallJob<Double, H>, H>;
 
+fn pool<H: Host>(rt: H) -> io::Result<Doublers<H>> {
+    Ok(Executor::new(rt, Some("3"))?)
+}
+
 // Doubles the numbers below eight, and whatever comes below 50 once more, in a set. How many answers came, and their sum.
-fn in_a_set<H: Host>(rt: H) -> io::Result<(u32, u64)> {
-    let executor: Doublers<H> = Executor::new(rt, Some("3"))?;
+fn in_a_set<J: Job + Carries<CallJob<Double, H>>, H: Host>(
+    rt: H,
+    executor: &Executor<J, H>,
+) -> io::Result<(u32, u64)> {
     let mut calls = CallSet::new(rt.alloc())?;
     for number in 0..8u32 {
-        calls.push(unblock(&executor, Double(number))?)?;
+        calls.push(unblock(executor, Double(number))?)?;
     }
     let (mut count, mut sum) = (0u32, 0u64);
     for _ in rt.forever() {
@@ -43,7 +50,7 @@ fn in_a_set<H: Host>(rt: H) -> io::Result<(u32, u64)> {
         count = count.saturating_add(1);
         sum = sum.saturating_add(doubled);
         if doubled == 14 {
-            calls.push(unblock(&executor, Double(100))?)?;
+            calls.push(unblock(executor, Double(100))?)?;
         }
     }
     Ok((count, sum))
@@ -51,27 +58,33 @@ fn in_a_set<H: Host>(rt: H) -> io::Result<(u32, u64)> {
 
 #[test]
 fn answers_come_of_a_set_that_grows(rt: HostRuntime) -> Result<(), Fail> {
-    assert_eq!(rt; in_a_set(rt)?, (9, 256));
+    let pool = pool(rt)?;
+    assert_eq!(rt; in_a_set(rt, &pool)?, (9, 256));
     Ok(())
 }
 
-fn in_a_pair<H: Host>(rt: H) -> io::Result<(u64, u64)> {
-    let executor: Doublers<H> = Executor::new(rt, Some("2"))?;
-    let first = FusedTask::new(unblock(&executor, Double(4))?);
-    let second = FusedTask::new(unblock(&executor, Double(5))?);
+fn in_a_pair<J: Job + Carries<CallJob<Double, H>>, H: Host>(
+    rt: H,
+    executor: &Executor<J, H>,
+) -> io::Result<(u64, u64)> {
+    let first = FusedTask::new(unblock(executor, Double(4))?);
+    let second = FusedTask::new(unblock(executor, Double(5))?);
     block_on(&rt, join(first, second))
 }
 
 #[test]
 fn answers_come_in_a_pair(rt: HostRuntime) -> Result<(), Fail> {
-    assert_eq!(rt; in_a_pair(rt)?, (8, 10));
+    let pool = pool(rt)?;
+    assert_eq!(rt; in_a_pair(rt, &pool)?, (8, 10));
     Ok(())
 }
 
 // Awaits an answer, and polls once more: the answer, whether that poll waits and whether it woke its own task, and whether a task is left.
-fn polled_behind<H: Host>(rt: H) -> io::Result<(u64, bool, bool, bool)> {
-    let executor: Doublers<H> = Executor::new(rt, Some("1"))?;
-    let mut fused = FusedTask::new(unblock(&executor, Double(6))?);
+fn polled_behind<J: Job + Carries<CallJob<Double, H>>, H: Host>(
+    rt: H,
+    executor: &Executor<J, H>,
+) -> io::Result<(u64, bool, bool, bool)> {
+    let mut fused = FusedTask::new(unblock(executor, Double(6))?);
     let answer = block_on(&rt, &mut fused)?;
     let mock = MockTask::new(&rt)?;
     let waits = matches!(mock.poll(&mut fused), Poll::Pending) && fused.is_taken();
@@ -81,14 +94,17 @@ fn polled_behind<H: Host>(rt: H) -> io::Result<(u64, bool, bool, bool)> {
 
 #[test]
 fn a_poll_behind_the_answer_waits(rt: HostRuntime) -> Result<(), Fail> {
-    assert_eq!(rt; polled_behind(rt)?, (12, true, false, false));
+    let pool = pool(rt)?;
+    assert_eq!(rt; polled_behind(rt, &pool)?, (12, true, false, false));
     Ok(())
 }
 
 // Takes the task back before it is polled, and awaits it.
-fn taken_back<H: Host>(rt: H) -> io::Result<u64> {
-    let executor: Doublers<H> = Executor::new(rt, Some("1"))?;
-    let fused = FusedTask::new(unblock(&executor, Double(7))?);
+fn taken_back<J: Job + Carries<CallJob<Double, H>>, H: Host>(
+    rt: H,
+    executor: &Executor<J, H>,
+) -> io::Result<u64> {
+    let fused = FusedTask::new(unblock(executor, Double(7))?);
     match fused.into_task() {
         Some(task) => block_on(&rt, task),
         None => Ok(0),
@@ -97,7 +113,8 @@ fn taken_back<H: Host>(rt: H) -> io::Result<u64> {
 
 #[test]
 fn a_task_that_gave_no_answer_comes_back(rt: HostRuntime) -> Result<(), Fail> {
-    assert_eq!(rt; taken_back(rt)?, 14);
+    let pool = pool(rt)?;
+    assert_eq!(rt; taken_back(rt, &pool)?, 14);
     Ok(())
 }
 

@@ -7,7 +7,7 @@ use crate::scene::{Row, play};
 use crate::threads::come_to_be;
 use crate::visit::LOOKS;
 use crate::visit::Stop::InCall;
-use blocking::{CallJob, Executor, Host, Task, unblock};
+use blocking::{CallJob, Carries, Executor, Host, Job, Task, unblock};
 use blocking_core::task::Call;
 use futures::executor::block_on;
 use std::io;
@@ -122,9 +122,9 @@ struct Pair {
 }
 
 // Whether the calls of this round meet.
-fn pair_meets<H: Host>(
+fn pair_meets<J: Job + Carries<CallJob<Meet, H>>, H: Host>(
     rt: &H,
-    executor: &Executor<CallJob<Meet, H>, H>,
+    executor: &Executor<J, H>,
     pair: &Pair,
     round: u64,
 ) -> io::Result<bool> {
@@ -159,10 +159,10 @@ const MAY_BE_LATE: u32 = 1;
 const SECONDS: u64 = 20;
 
 // How many rounds last long; None where the calls of one don't meet.
-fn late_rounds<H: Host>(rt: H) -> io::Result<Option<u32>> {
-    let Ok(executor) = Executor::new(rt, Some("2")) else {
-        return Ok(None);
-    };
+fn late_rounds<J: Job + Carries<CallJob<Meet, H>>, H: Host>(
+    rt: H,
+    executor: &Executor<J, H>,
+) -> io::Result<Option<u32>> {
     let pair = Pair {
         first: Arc::new(rt.alloc(), AtomicU64::new(0))?,
         second: Arc::new(rt.alloc(), AtomicU64::new(0))?,
@@ -174,7 +174,7 @@ fn late_rounds<H: Host>(rt: H) -> io::Result<Option<u32>> {
             break;
         }
         let start = Instant::now(&rt)?;
-        if !pair_meets(&rt, &executor, &pair, round)? {
+        if !pair_meets(&rt, executor, &pair, round)? {
             return Ok(None);
         }
         // (in the first round both workers are started, which may take its time)
@@ -188,7 +188,8 @@ fn late_rounds<H: Host>(rt: H) -> io::Result<Option<u32>> {
 // (the calls of a round find their workers idle, asleep or looking, as the round before left them)
 #[test]
 fn two_calls_run_at_once(rt: HostRuntime) -> Result<(), Fail> {
-    let late = late_rounds(rt)?;
+    let executor: Executor<CallJob<Meet, HostRuntime>, HostRuntime> = Executor::new(rt, Some("2"))?;
+    let late = late_rounds(rt, &executor)?;
     assert!(rt; late.is_some_and(|late| late <= MAY_BE_LATE));
     Ok(())
 }

@@ -6,7 +6,7 @@ use crate::scene::Step::{Begin, BeginFor, ClientLimit, Do, Pause, See, Workers};
 use crate::scene::{Row, play};
 use crate::threads::{come_to_be, processor_nanos};
 use crate::visit::Stop::{InCall, Nowhere};
-use blocking::{CallJob, Executor, Host, Task, set_client_limit, unblock_for};
+use blocking::{CallJob, Carries, Executor, Host, Job, Task, set_client_limit, unblock_for};
 use blocking_core::task::Call;
 use futures::executor::block_on;
 use std::sync::{Arc, Mutex};
@@ -71,7 +71,12 @@ impl<H: Host> Client<H> {
     }
 
     // Begins so many calls, each of which sleeps so long. Whether all are accepted.
-    fn begin(&mut self, executor: &Callers<H>, count: u32, millis: u64) -> io::Result<bool> {
+    fn begin<J: Job + Carries<CallJob<Sleep<H>, H>>>(
+        &mut self,
+        executor: &Executor<J, H>,
+        count: u32,
+        millis: u64,
+    ) -> io::Result<bool> {
         for _ in 0..count {
             let call = Sleep {
                 rt: self.rt,
@@ -107,23 +112,30 @@ impl<H: Host> Client<H> {
 
 #[test]
 fn call_of_a_client_answers(rt: HostRuntime) -> Result<(), Fail> {
-    let executor = Executor::new(rt, Some("4"))?;
+    let executor: Callers<HostRuntime> = Executor::new(rt, Some("4"))?;
     let mut client = Client::new(rt, 7)?;
     assert!(rt; client.begin(&executor, 1, 0)?);
     assert!(rt; client.is_served()?);
     Ok(())
 }
 
-// (twenty calls that sleep for five milliseconds each)
-#[test]
-fn one_call_of_each_client_runs_at_a_time(rt: HostRuntime) -> Result<(), Fail> {
-    let executor = Executor::new(rt, Some("4"))?;
-    set_client_limit(&executor, Some(1));
+// How many calls of each of two clients ran at once, at most: twenty of each, that sleep for five milliseconds. None where one is refused.
+fn most_of_two<J: Job + Carries<CallJob<Sleep<H>, H>>, H: Host>(
+    rt: H,
+    executor: &Executor<J, H>,
+) -> io::Result<Option<(u32, u32)>> {
     let mut first = Client::new(rt, 1)?;
     let mut second = Client::new(rt, 2)?;
-    assert!(rt; first.begin(&executor, 20, 5)? && second.begin(&executor, 20, 5)?);
-    assert!(rt; first.is_served()? && second.is_served()?);
-    assert_eq!(rt; (first.most(), second.most()), (1, 1));
+    let is_begun = first.begin(executor, 20, 5)? && second.begin(executor, 20, 5)?;
+    let is_served = is_begun && first.is_served()? && second.is_served()?;
+    Ok(is_served.then_some((first.most(), second.most())))
+}
+
+#[test]
+fn one_call_of_each_client_runs_at_a_time(rt: HostRuntime) -> Result<(), Fail> {
+    let executor: Callers<HostRuntime> = Executor::new(rt, Some("4"))?;
+    set_client_limit(&executor, Some(1));
+    assert_eq!(rt; most_of_two(rt, &executor)?, Some((1, 1)));
     Ok(())
 }
 
@@ -133,37 +145,50 @@ const HARDLY_ANY: u64 = 20_000_000;
 // How many workers are idle beside the one that runs a call.
 const IDLE: usize = 3;
 
+// Whether there are four workers, since four calls were made at once.
+fn has_four_workers<J: Job + Carries<CallJob<Sleep<H>, H>>, H: Host + std::fs::Files>(
+    rt: H,
+    executor: &Executor<J, H>,
+) -> io::Result<bool> {
+    let mut others = Client::new(rt, 0)?;
+    Ok(others.begin(executor, 4, 300)? && come_to_be(&rt, 4)? && others.is_served()?)
+}
+
+// How long the threads had a processor within a second, and whether the same workers were idle before and behind it.
+fn nanos_of_a_second<J: Job, H: Host + std::fs::Files>(
+    rt: &H,
+    executor: &Executor<J, H>,
+) -> io::Result<(u64, bool)> {
+    let idle_before = executor.counts().idle;
+    let before = processor_nanos(rt)?;
+    thread::sleep(rt, Duration::from_secs(1));
+    let after = processor_nanos(rt)?;
+    let idle = (idle_before, executor.counts().idle);
+    Ok((after.saturating_sub(before), idle == (IDLE, IDLE)))
+}
+
 // How long they had one within a second: a call of a client sleeps so long, a hundred more of it are queued, and three workers are idle. None
 // where a call is refused, or others are idle.
-fn nanos_beside_queued_calls<H: Host + std::fs::Files>(rt: H) -> io::Result<Option<u64>> {
-    let Ok(executor) = Executor::new(rt, Some("4")) else {
-        return Ok(None);
-    };
-    // (so that there are four workers)
-    let mut others = Client::new(rt, 0)?;
-    if !others.begin(&executor, 4, 300)? || !come_to_be(&rt, 4)? || !others.is_served()? {
-        return Ok(None);
-    }
-    set_client_limit(&executor, Some(1));
+fn nanos_beside_queued_calls<J: Job + Carries<CallJob<Sleep<H>, H>>, H: Host + std::fs::Files>(
+    rt: H,
+    executor: &Executor<J, H>,
+) -> io::Result<Option<u64>> {
+    set_client_limit(executor, Some(1));
     let mut client = Client::new(rt, 7)?;
-    if !client.begin(&executor, 1, 1500)? || !client.begin(&executor, 100, 0)? {
+    if !client.begin(executor, 1, 1500)? || !client.begin(executor, 100, 0)? {
         return Ok(None);
     }
     thread::sleep(&rt, Duration::from_millis(100));
-    let idle_before = executor.counts().idle;
-    let before = processor_nanos(&rt)?;
-    thread::sleep(&rt, Duration::from_secs(1));
-    let after = processor_nanos(&rt)?;
-    let idle = (idle_before, executor.counts().idle);
-    if idle != (IDLE, IDLE) || !client.is_served()? || client.most() != 1 {
-        return Ok(None);
-    }
-    Ok(Some(after.saturating_sub(before)))
+    let (nanos, is_idle) = nanos_of_a_second(&rt, executor)?;
+    let is_kept = is_idle && client.is_served()? && client.most() == 1;
+    Ok(is_kept.then_some(nanos))
 }
 
 #[test]
 fn idle_workers_sleep_beside_jobs_that_are_not_ready(rt: HostRuntime) -> Result<(), Fail> {
-    let nanos = nanos_beside_queued_calls(rt)?;
+    let executor: Callers<HostRuntime> = Executor::new(rt, Some("4"))?;
+    assert!(rt; has_four_workers(rt, &executor)?);
+    let nanos = nanos_beside_queued_calls(rt, &executor)?;
     assert!(rt; nanos.is_some_and(|nanos| nanos < HARDLY_ANY));
     Ok(())
 }
