@@ -72,16 +72,15 @@ module _ (p : ReadProgress) (acts : List Act) (s : Session) (r : ReadAs p acts) 
   room_on is (Served zero) found =
       absurd (let some = (some_room (room s.pipe) 0 s.pipe.is_owner_open found).1 in omega arith)
   room_on is (Served (suc n)) found =
-      of_reader.meets p acts ReadAction.FindRoom
-      (ReadAction.Read (min (suc n) 65536)) false (ReadAnswer.Free (suc n)) (RoomFree (suc n)) r
-      (of_reader.awake p ReadAction.FindRoom is (λ e. cc)) refl refl refl refl
+      of_reader.meets p acts (ReadAction.Read (min (suc n) 65536)) false (ReadAnswer.Free (suc n))
+      (RoomFree (suc n)) (of_reader.does p acts r is (λ e. cc)) refl refl refl r.fault_is
   room_on is Waiting found =
-      let a = of_reader.awake p ReadAction.FindRoom is (λ e. cc) in
-      of_reader.meets p acts ReadAction.FindRoom ReadAction.FindRoom false ReadAnswer.Parked
-      JobParked r a refl (ap (read_action_as p.piece) (sym a.next_is) ∙ r.next) refl refl
+      let d = of_reader.does p acts r is (λ e. cc) in
+      of_reader.meets p acts ReadAction.FindRoom false ReadAnswer.Parked JobParked d refl
+      (sym d.table) refl r.fault_is
   room_on is Closed found =
-      of_reader.meets p acts ReadAction.FindRoom ReadAction.Close false ReadAnswer.Shut RoomShut r
-      (of_reader.awake p ReadAction.FindRoom is (λ e. cc)) refl refl refl refl
+      of_reader.meets p acts ReadAction.Close false ReadAnswer.Shut RoomShut
+      (of_reader.does p acts r is (λ e. cc)) refl refl refl r.fault_is
 
   put_on : (count : ℕ) → read_next p.core ≡ ReadAction.Put count → fits_in p.piece s ≡ true
       → (met : Met (Option (Unit {0}))) → found_put p.piece s ≡ met → ReadOn (work_at_put met p s)
@@ -89,13 +88,12 @@ module _ (p : ReadProgress) (acts : List Act) (s : Session) (r : ReadAs p acts) 
       (no_wait (length p.piece) (room s.pipe) s.pipe.is_owner_open s.pipe.owner_seat fits found)
   put_on count is fits (Served seat) found =
       let woke = is_some seat in
-      of_reader.meets p acts (ReadAction.Put count)
-      ReadAction.FindRoom woke (ReadAnswer.Put woke) (Put (length p.piece) (waker_in woke)) r
-      (of_reader.awake p (ReadAction.Put count) is (λ e. cc)) refl refl (taken_is woke) refl
+      of_reader.meets p acts ReadAction.FindRoom woke (ReadAnswer.Put woke)
+      (Put (length p.piece) (waker_in woke)) (of_reader.does p acts r is (λ e. cc)) refl refl
+      (taken_is woke) r.fault_is
   put_on count is fits Closed found =
-      of_reader.meets p acts (ReadAction.Put count) ReadAction.Close false ReadAnswer.Lost
-      (Lost (length p.piece)) r (of_reader.awake p (ReadAction.Put count) is (λ e. cc)) refl
-      refl refl refl
+      of_reader.meets p acts ReadAction.Close false ReadAnswer.Lost (Lost (length p.piece))
+      (of_reader.does p acts r is (λ e. cc)) refl refl refl r.fault_is
 
   -- what it does next there
   reads_on : (a : ReadAction) → read_next p.core ≡ a → (work : Work ReadProgress)
@@ -112,14 +110,14 @@ module _ (p : ReadProgress) (acts : List Act) (s : Session) (r : ReadAs p acts) 
       by_fit false fits does = absurd (cc)
   reads_on ReadAction.Close is work does =
       let woke = closing_wakes s in
-      moved ReadOn (work_of_close p s) work does (of_reader.meets p acts ReadAction.Close
-      ReadAction.Finish woke (ReadAnswer.Closed woke) (JobClosed (waker_in woke)) r
-      (of_reader.awake p ReadAction.Close is (λ e. cc)) refl refl (taken_is woke) refl)
+      moved ReadOn (work_of_close p s) work does (of_reader.meets p acts
+      ReadAction.Finish woke (ReadAnswer.Closed woke) (JobClosed (waker_in woke))
+      (of_reader.does p acts r is (λ e. cc)) refl refl (taken_is woke) r.fault_is)
   reads_on ReadAction.Finish is work does =
       let woke = finish_wakes p.fault s in
-      moved ReadOn (work_of_finish p s) work does (of_reader.meets p acts ReadAction.Finish
-      ReadAction.Done woke (ReadAnswer.Finished woke) (Finished (waker_in woke)) r
-      (of_reader.awake p ReadAction.Finish is (λ e. cc)) refl refl (taken_is woke) refl)
+      moved ReadOn (work_of_finish p s) work does (of_reader.meets p acts
+      ReadAction.Done woke (ReadAnswer.Finished woke) (Finished (waker_in woke))
+      (of_reader.does p acts r is (λ e. cc)) refl refl (taken_is woke) r.fault_is)
   reads_on _ is work does = absurd (cc)
 
 -- ---- a job that writes, at its session
@@ -132,16 +130,16 @@ module _ (p : WriteProgress) (acts : List Act) (s : Session) (r : WriteAs p acts
       → WriteOn (work_at_peek met p s)
   peek_on is (Served found) shows =
       let some = some_piece piece s.pipe.items s.pipe.is_owner_open found shows in
-      of_writer.meets_piece p acts found r (of_writer.awake p WriteAction.Peek is (λ e. cc))
+      of_writer.meets_piece p acts found r is
       (λ none. some.1 (nothing_first piece s.pipe.items (omega arith) (sym some.0 ∙ none)))
       (subst (λ l. length l ≤ piece) (sym some.0) (no_more_than piece s.pipe.items))
   peek_on is Waiting shows =
-      let a = of_writer.awake p WriteAction.Peek is (λ e. cc) in
-      of_writer.meets p acts WriteAction.Peek WriteAction.Peek false WriteAnswer.Parked JobParked r
-      a refl refl (ap (write_action_as p.piece) (sym a.next_is) ∙ r.next) tt refl refl
+      let d = of_writer.does p acts r is (λ e. cc) in
+      of_writer.meets p acts WriteAction.Peek false WriteAnswer.Parked JobParked d refl
+      (sym d.table) tt refl (of_writer.kept p acts r)
   peek_on is Closed shows =
-      of_writer.meets p acts WriteAction.Peek WriteAction.Flush false WriteAnswer.Drained Drained r
-      (of_writer.awake p WriteAction.Peek is (λ e. cc)) refl refl refl tt refl refl
+      of_writer.meets p acts WriteAction.Flush false WriteAnswer.Drained Drained
+      (of_writer.does p acts r is (λ e. cc)) refl refl tt refl (of_writer.kept p acts r)
 
   -- what it does next there
   writes_on : (a : WriteAction) → write_next p.core ≡ a → (work : Work WriteProgress)
@@ -155,22 +153,22 @@ module _ (p : WriteProgress) (acts : List Act) (s : Session) (r : WriteAs p acts
       by_hold true does =
           let woke = closing_wakes s in
           moved WriteOn (work_of_consume count p s)
-          work does (of_writer.meets p acts (WriteAction.Consume count) WriteAction.Peek woke
-          (WriteAnswer.Consumed woke) (TakenOut count (waker_in woke)) r (of_writer.awake p
-          (WriteAction.Consume count) is (λ e. cc)) refl refl refl tt (taken_is woke) refl)
+          work does (of_writer.meets p acts WriteAction.Peek woke (WriteAnswer.Consumed woke)
+          (TakenOut count (waker_in woke)) (of_writer.does p acts r is (λ e. cc)) refl refl tt
+          (taken_is woke) (of_writer.kept p acts r))
       by_hold false does = absurd (cc)
   writes_on WriteAction.Close is work does =
       let woke = closing_wakes s in
-      moved WriteOn (writer_closes p s) work does (of_writer.meets p acts WriteAction.Close
+      moved WriteOn (writer_closes p s) work does (of_writer.meets p acts
       WriteAction.Finish woke (WriteAnswer.Closed woke) (JobClosed (waker_in woke))
-      r (of_writer.awake p WriteAction.Close is (λ e. cc)) refl refl refl tt (taken_is woke)
-      refl)
+      (of_writer.does p acts r is (λ e. cc)) refl refl tt (taken_is woke)
+      (of_writer.kept p acts r))
   writes_on WriteAction.Finish is work does =
       let woke = finish_wakes (write_fault_of p.core) s in
-      moved WriteOn (writer_finishes p s) work does (of_writer.meets p acts WriteAction.Finish
+      moved WriteOn (writer_finishes p s) work does (of_writer.meets p acts
       WriteAction.Done woke (WriteAnswer.Finished woke) (Finished (waker_in woke))
-      r (of_writer.awake p WriteAction.Finish is (λ e. cc)) refl refl refl tt (taken_is woke)
-      refl)
+      (of_writer.does p acts r is (λ e. cc)) refl refl tt (taken_is woke)
+      (of_writer.kept p acts r))
   writes_on _ is work does = absurd (cc)
 
 -- ---- a job that runs an iterator, at its session
@@ -183,16 +181,15 @@ module _ (p : ItemProgress) (acts : List Act) (s : Session) (r : ItemAs p acts) 
       → found_send s ≡ met → StreamOn (work_at_send met p s)
   send_on is (Served seat) found =
       let woke = is_some seat in
-      of_streamer.meets p acts ItemAction.Send ItemAction.Next woke (ItemAnswer.Sent woke)
-      (Put 1 (waker_in woke)) r (of_streamer.awake p ItemAction.Send is (λ e. cc)) refl refl
-      (taken_is woke) refl
+      of_streamer.meets p acts ItemAction.Next woke (ItemAnswer.Sent woke) (Put 1 (waker_in woke))
+      (of_streamer.does p acts r is (λ e. cc)) refl refl (taken_is woke) r.fault_is
   send_on is Waiting found =
-      let a = of_streamer.awake p ItemAction.Send is (λ e. cc) in
-      of_streamer.meets p acts ItemAction.Send ItemAction.Send false ItemAnswer.Parked JobParked r a
-      refl (ap (item_action_as p.item) (sym a.next_is) ∙ r.next) refl refl
+      let d = of_streamer.does p acts r is (λ e. cc) in
+      of_streamer.meets p acts ItemAction.Send false ItemAnswer.Parked JobParked d refl
+      (sym d.table) refl r.fault_is
   send_on is Closed found =
-      of_streamer.meets p acts ItemAction.Send ItemAction.Close false ItemAnswer.Shut (Lost 1) r
-      (of_streamer.awake p ItemAction.Send is (λ e. cc)) refl refl refl refl
+      of_streamer.meets p acts ItemAction.Close false ItemAnswer.Shut (Lost 1)
+      (of_streamer.does p acts r is (λ e. cc)) refl refl refl r.fault_is
 
   -- what it does next there
   streams_on : (a : ItemAction) → item_next p.core ≡ a → (work : Work ItemProgress)
@@ -201,14 +198,14 @@ module _ (p : ItemProgress) (acts : List Act) (s : Session) (r : ItemAs p acts) 
       moved StreamOn (work_at_send (found_send s) p s) work does (send_on is (found_send s) refl)
   streams_on ItemAction.Close is work does =
       let woke = closing_wakes s in
-      moved StreamOn (streamer_closes p s) work does (of_streamer.meets p acts ItemAction.Close
-      ItemAction.Finish woke (ItemAnswer.Closed woke) (JobClosed (waker_in woke)) r
-      (of_streamer.awake p ItemAction.Close is (λ e. cc)) refl refl (taken_is woke) refl)
+      moved StreamOn (streamer_closes p s) work does (of_streamer.meets p acts
+      ItemAction.Finish woke (ItemAnswer.Closed woke) (JobClosed (waker_in woke))
+      (of_streamer.does p acts r is (λ e. cc)) refl refl (taken_is woke) r.fault_is)
   streams_on ItemAction.Finish is work does =
       let woke = finish_wakes None s in
-      moved StreamOn (streamer_finishes p s) work does (of_streamer.meets p acts ItemAction.Finish
-      ItemAction.Done woke (ItemAnswer.Finished woke) (Finished (waker_in woke)) r
-      (of_streamer.awake p ItemAction.Finish is (λ e. cc)) refl refl (taken_is woke) refl)
+      moved StreamOn (streamer_finishes p s) work does (of_streamer.meets p acts
+      ItemAction.Done woke (ItemAnswer.Finished woke) (Finished (waker_in woke))
+      (of_streamer.does p acts r is (λ e. cc)) refl refl (taken_is woke) r.fault_is)
   streams_on _ is work does = absurd (cc)
 
 -- ---- a job that seeks, at its session
@@ -220,9 +217,9 @@ seeks_on : (p : SeekProgress) (acts : List Act) (s : Session) → SeekAs p acts 
 seeks_on p acts s r SeekAction.Finish is work does =
     let woke = finish_wakes p.fault s in
     subst (λ (w : Work SeekProgress). SeekAs w.job (w.act ∷ acts)) (ap (value_of work) does)
-    (of_seeker.meets p acts SeekAction.Finish SeekAction.Done woke (SeekAnswer.Finished woke)
-    (Finished (waker_in woke)) r (of_seeker.awake p SeekAction.Finish is (λ e. cc)) refl refl
-    (taken_is woke) refl refl)
+    (of_seeker.meets p acts SeekAction.Done woke (SeekAnswer.Finished woke)
+    (Finished (waker_in woke)) (of_seeker.does p acts r is (λ e. cc)) refl refl (taken_is woke)
+    r.fault_is r.place_is)
 seeks_on p acts s r _ is work does = absurd (cc)
 
 -- ---- a job that runs an operation, at its session
@@ -234,15 +231,15 @@ operates_on : (p : OpProgress) (acts : List Act) (s : Session) → OperationAs p
 operates_on p acts s r OpAction.PutResult is work does =
     let woke = result_wakes p.number s in
     subst (λ (w : Work OpProgress). OperationAs w.job (w.act ∷ acts)) (ap (value_of work) does)
-    (of_operator.meets p acts OpAction.PutResult OpAction.Finish woke (OpAnswer.ResultPut woke)
-    (ResultPut (waker_in woke)) r (of_operator.awake p OpAction.PutResult is (λ e. cc)) refl
-    refl (taken_is woke) refl refl)
+    (of_operator.meets p acts OpAction.Finish woke (OpAnswer.ResultPut woke)
+    (ResultPut (waker_in woke)) (of_operator.does p acts r is (λ e. cc)) refl refl (taken_is woke)
+    r.fault_is r.number_is)
 operates_on p acts s r OpAction.Finish is work does =
     let woke = finish_wakes None s in
     subst (λ (w : Work OpProgress). OperationAs w.job (w.act ∷ acts)) (ap (value_of work) does)
-    (of_operator.meets p acts OpAction.Finish OpAction.Done woke (OpAnswer.Finished woke)
-    (Finished (waker_in woke)) r (of_operator.awake p OpAction.Finish is (λ e. cc)) refl refl
-    (taken_is woke) refl refl)
+    (of_operator.meets p acts OpAction.Done woke (OpAnswer.Finished woke)
+    (Finished (waker_in woke)) (of_operator.does p acts r is (λ e. cc)) refl refl (taken_is woke)
+    r.fault_is r.number_is)
 operates_on p acts s r _ is work does = absurd (cc)
 
 -- ---- a job of an owner
