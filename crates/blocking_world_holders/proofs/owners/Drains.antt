@@ -12,10 +12,13 @@ use Rattle.blocking_world_holders.proofs.Words.{Kind, OfferBytes, Operating, Ove
 use Rattle.blocking_world_holders.proofs.Words.{Reading, Seeking, SendItem, Streaming, Writing}
 use Rattle.blocking_world_holders.proofs.Words.{fault, has_finished, has_given_up, is_over}
 use Rattle.blocking_world_holders.proofs.Words.{next_but_wake, SeenSession, FlowAs, Flows, IsDone}
-use Rattle.blocking_world_holders.proofs.Words.{IsDrained, IsOwnerStuckIn, IsStuckIn, Passed}
-use Rattle.blocking_world_holders.proofs.Words.{PassedAs, PlainFlow, SessionAs, SlotAs, WriteFlowAs}
+use Rattle.blocking_world_holders.proofs.Words.{IsDrained, IsOwnerStuckIn, IsStuckIn, LentAs}
+use Rattle.blocking_world_holders.proofs.Words.{Passed}
+use Rattle.blocking_world_holders.proofs.Words.{PassedAs, PlainFlow, SeatsAs, SessionAs, SlotAs}
+use Rattle.blocking_world_holders.proofs.Words.{WriteFlowAs}
 use Rattle.blocking_world_holders.proofs.Words.{WrittenAs, Wrote, is_piped_kind, passed_by}
-use Rattle.blocking_world_holders.proofs.Words.{wrote_by, Session, goods_of, new_session}
+use Rattle.blocking_world_holders.proofs.Words.{first_action, wrote_by, OfNothing, Session}
+use Rattle.blocking_world_holders.proofs.Words.{goods_of, new_session}
 use Rattle.blocking_world_holders.proofs.Words.{session_after_close, session_after_drain}
 use Rattle.blocking_world_holders.proofs.Words.{session_after_look}
 
@@ -109,6 +112,36 @@ stops_writing Over out items lasts shut given_up w p =
 stops_writing _ out items lasts shut given_up w p = absurd p
 
 -- ---- what depends on the kind of the session
+
+-- what passes through the pipe of a session, and which it is, whoever sits there, whatever stands
+-- in its places, and with these items inside, of which there are no more than there may be
+pub lent_with : (s : Session) {item left : ℕ} {items : List ℕ} {runs : Bool}
+    {at_job : Option JobNumber} {at_owner : Option (Unit {0})} {result : Slot ℕ (Unit {0})}
+    {slot : Slot (Option (Fault ℕ)) (Unit {0})} {kind : Kind} {capacity : ℕ}
+    {last : Option SeenSession} {shut : Bool} → LentAs s kind capacity last shut
+    → length items ≤ capacity
+    → LentAs (record {
+      number = s.number;
+      goods = s.goods;
+      item = item;
+      pipe = record s.pipe {
+        items = items;
+        is_job_open = runs;
+        job_seat = at_job;
+        owner_seat = at_owner;
+      };
+      result = result;
+      slot = slot;
+      left = left;
+    }) kind capacity last shut
+lent_with s t within = record {
+  begun = t.begun;
+  goods = t.goods;
+  some = t.some;
+  holds = t.holds;
+  within = within;
+  shut_is = t.shut_is;
+}
 
 -- what passed through a pipe has passed there whoever sits at it, whatever end is closed, and
 -- whatever stands in the slot
@@ -255,6 +288,50 @@ same_owner_stuck s slot Writing e = e
 same_owner_stuck s slot Reading e = e
 same_owner_stuck s slot _ e = e
 
+-- or somebody else sits there
+seats_stuck : (s : Session) (at_job : Option JobNumber) (at_owner : Option (Unit {0})) (kind : Kind)
+    → (IsStuckIn kind s → IsStuckIn kind
+    (record s { pipe = record s.pipe { job_seat = at_job; owner_seat = at_owner } }))
+    × (IsOwnerStuckIn kind s → IsOwnerStuckIn kind
+    (record s { pipe = record s.pipe { job_seat = at_job; owner_seat = at_owner } }))
+seats_stuck s at_job at_owner Writing = (λ e. e, λ e. e)
+seats_stuck s at_job at_owner Reading = (λ e. e, λ e. e)
+seats_stuck s at_job at_owner _ = (λ e. e, λ e. e)
+
+-- so who can't go on at the pipe may be seated there: the owner, or the job
+pub owner_sits : (s : Session) {kind : Kind} {waits js ps ss : Bool} → SeatsAs s kind waits js ps ss
+    → IsOwnerStuckIn kind s × (s.pipe.is_job_open ≡ true)
+    → SeatsAs (record s { pipe = record s.pipe { owner_seat = Some tt } }) kind waits js true ss
+owner_sits s {kind} t stuck =
+    let still = seats_stuck s s.pipe.job_seat (Some tt) kind in
+    record {
+      job = t.job;
+      owner = refl;
+      slot = t.slot;
+      reason = record {
+        job = λ seated. (let r = t.reason.job seated in (r.0, still.0 r.1, r.2));
+        owner = λ seated. (still.1 stuck.0, stuck.1);
+        slot = t.reason.slot;
+      };
+    }
+
+pub job_sits : (s : Session) {kind : Kind} {waits stays js ps ss : Bool}
+    → SeatsAs s kind waits js ps ss → stays ≡ true
+    → IsStuckIn kind s × (s.pipe.is_owner_open ≡ true)
+    → SeatsAs (record s { pipe = record s.pipe { job_seat = Some s.number } }) kind stays true ps ss
+job_sits s {kind} t waits stuck =
+    let still = seats_stuck s (Some s.number) s.pipe.owner_seat kind in
+    record {
+      job = refl;
+      owner = t.owner;
+      slot = t.slot;
+      reason = record {
+        job = λ seated. (waits, still.0 stuck.0, stuck.1);
+        owner = λ seated. (let r = t.reason.owner seated in (still.1 r.0, r.1));
+        slot = t.reason.slot;
+      };
+    }
+
 -- an owner that can't go on still can't where its end is closed
 shut_stuck : (s : Session) (kind : Kind) → IsOwnerStuckIn kind s
     → IsOwnerStuckIn kind (session_after_close s)
@@ -304,14 +381,7 @@ module _ (s : Session) (kind : Kind) (capacity : ℕ) (last : Option SeenSession
       t.result.slot in
       let emptied : Slot (Option (Fault ℕ)) (Unit {0}) = record s.slot { content = Empty } in
       record {
-        lent = record {
-          begun = t.lent.begun;
-          goods = t.lent.goods;
-          some = t.lent.some;
-          holds = t.lent.holds;
-          within = t.lent.within;
-          shut_is = t.lent.shut_is;
-        };
+        lent = lent_with s t.lent t.lent.within;
         flow = same_flow s emptied kind shut took accepted (next_but_wake kind acts) acts t.flow;
         result = record {
           slot = (slot.0, slot.1);
@@ -341,14 +411,7 @@ module _ (s : Session) (kind : Kind) (capacity : ℕ) (last : Option SeenSession
   waits_for_it found closed t =
       let sat : Slot (Option (Fault ℕ)) (Unit {0}) = record s.slot { seat = Some tt } in
       record {
-        lent = record {
-          begun = t.lent.begun;
-          goods = t.lent.goods;
-          some = t.lent.some;
-          holds = t.lent.holds;
-          within = t.lent.within;
-          shut_is = t.lent.shut_is;
-        };
+        lent = lent_with s t.lent t.lent.within;
         flow = same_flow s sat kind shut took accepted (next_but_wake kind acts) acts t.flow;
         result = t.result;
         seats = record {
@@ -382,15 +445,7 @@ module _ (s : Session) (capacity : ℕ) (last : Option SeenSession) (shut back d
       let shorter : length (drop (length got.0) s.pipe.items) ≤ length s.pipe.items =
       simp length-drop (omega arith) in
       record {
-        lent = record {
-          begun = t.lent.begun;
-          goods = t.lent.goods;
-          some = t.lent.some;
-          holds =
-              t.lent.holds;
-          within = omega (arith, shorter, within);
-          shut_is = t.lent.shut_is;
-        };
+        lent = lent_with s t.lent (omega (arith, shorter, within));
         flow = record {
           closed_is = t.flow.closed_is;
           inside = t.flow.inside ∙ ap (λ l. took ++ l) (sym (rejoined n s.pipe.items got.0 f.0))
@@ -433,35 +488,12 @@ module _ (s : Session) (capacity : ℕ) (last : Option SeenSession) (shut back d
       → SessionAs (session_after_drain Waiting s) Reading capacity last shut back dropped took
       accepted acts js true ss
   waits n found t = record {
-    lent = record {
-      begun = t.lent.begun;
-      goods = t.lent.goods;
-      some = t.lent.some;
-      holds = t.lent.holds;
-      within = t.lent.within;
-      shut_is = t.lent.shut_is;
-    };
-    flow = record {
-      closed_is = t.flow.closed_is;
-      inside = t.flow.inside;
-      put = t.flow.put;
-      bounded = t.flow.bounded;
-      sound = t.flow.sound;
-      passed_is = t.flow.passed_is;
-      unclosed = t.flow.unclosed;
-      unwritten = t.flow.unwritten;
-    };
+    lent = lent_with s t.lent t.lent.within;
+    flow = flow_with s s.pipe.is_job_open s.pipe.is_owner_open s.pipe.job_seat (Some tt) s.slot
+        t.flow.closed_is t.flow.passed_is t.flow.unclosed t.flow;
     result = t.result;
-    seats = record {
-      job = t.seats.job;
-      owner = refl;
-      slot = t.seats.slot;
-      reason = record {
-        job = t.seats.reason.job;
-        owner = λ seated. nothing_yet n s.pipe.items s.pipe.is_job_open s.pipe.job_seat found;
-        slot = t.seats.reason.slot;
-      };
-    };
+    seats = owner_sits s t.seats
+        (nothing_yet n s.pipe.items s.pipe.is_job_open s.pipe.job_seat found);
   }
 
 -- ---- a session that begins
@@ -485,12 +517,70 @@ lends s shut got accepted next acts (Seeking goal) flow = tt
 lends s shut got accepted next acts Operating flow = tt
 lends s shut got accepted next acts _ flow = absurd flow
 
+-- nothing went through the pipe of a new session, nor through that of one without a pipe
+new_plain : (number : JobNumber) (capacity : ℕ)
+    → PlainFlow (new_session number OfNothing capacity) [] [] false [] [] []
+new_plain number capacity = record {
+  closed_is = refl;
+  inside = refl;
+  unseated = refl;
+  ungot = refl;
+  unfilled = refl;
+  ungiven = refl;
+  unfound = refl;
+  unwritten = refl;
+}
+
+new_flow : (number : JobNumber) (kind : Kind) (capacity : ℕ) → IsLending kind
+    → Flows kind (new_session number (goods_of kind) capacity) false [] [] (first_action kind) []
+new_flow number Reading capacity lending = record {
+  closed_is = refl;
+  inside = refl;
+  put = ([], refl);
+  bounded = omega arith;
+  sound = λ hand. refl;
+  passed_is = (refl, (refl, refl));
+  unclosed = λ is. absurd (cc);
+  unwritten = refl;
+}
+new_flow number Streaming capacity lending = record {
+  closed_is = refl;
+  inside = refl;
+  put = ([], refl);
+  bounded = omega arith;
+  sound = λ hand. refl;
+  passed_is = (refl, (refl, refl));
+  unclosed = λ is. absurd (cc);
+  unwritten = refl;
+}
+new_flow number Writing capacity lending = record {
+  closed_is = refl;
+  out = [];
+  inside = refl;
+  removed = refl;
+  begun = ([], refl);
+  written_is = (refl, refl);
+  sound = λ none. refl;
+  ungot = refl;
+  ungiven = refl;
+  unclosed = λ is. absurd (cc);
+}
+new_flow number (Seeking goal) capacity lending =
+    record { plain = new_plain number capacity; next_is = tt; place = λ is. absurd (cc) }
+new_flow number Operating capacity lending =
+    record { plain = new_plain number capacity; next_is = tt }
+new_flow number _ capacity lending = absurd lending
+
+-- no job is over as it begins
+not_over : (kind : Kind) → false ≡ is_over (first_action kind)
+not_over kind = grind arith
+
 pub begins : (number : JobNumber) (kind : Kind) (capacity : ℕ) (dropped : Bool) → IsLending kind
     → 0 < capacity
     → SessionAs (new_session number (goods_of kind) capacity) kind capacity
     (Some (record { serial = number.serial; kind = kind })) false false dropped [] [] [] false
     false false
-begins number Reading capacity dropped lending some = record {
+begins number kind capacity dropped lending some = record {
   lent = record {
     begun = refl;
     goods = refl;
@@ -499,17 +589,8 @@ begins number Reading capacity dropped lending some = record {
     within = omega arith;
     shut_is = refl;
   };
-  flow = record {
-    closed_is = refl;
-    inside = refl;
-    put = ([], refl);
-    bounded = omega arith;
-    sound = λ hand. refl;
-    passed_is = (refl, (refl, refl));
-    unclosed = λ is. absurd (cc);
-    unwritten = refl;
-  };
-  result = record { slot = (refl, refl); over_is = refl; let_go = λ is. absurd (cc) };
+  flow = new_flow number kind capacity lending;
+  result = record { slot = (refl, refl); over_is = not_over kind; let_go = λ is. absurd (cc) };
   seats = record {
     job = refl;
     owner = refl;
@@ -521,137 +602,3 @@ begins number Reading capacity dropped lending some = record {
     };
   };
 }
-begins number Streaming capacity dropped lending some = record {
-  lent = record {
-    begun = refl;
-    goods = refl;
-    some = some;
-    holds = refl;
-    within = omega arith;
-    shut_is = refl;
-  };
-  flow = record {
-    closed_is = refl;
-    inside = refl;
-    put = ([], refl);
-    bounded = omega arith;
-    sound = λ hand. refl;
-    passed_is = (refl, (refl, refl));
-    unclosed = λ is. absurd (cc);
-    unwritten = refl;
-  };
-  result = record { slot = (refl, refl); over_is = refl; let_go = λ is. absurd (cc) };
-  seats = record {
-    job = refl;
-    owner = refl;
-    slot = refl;
-    reason = record {
-      job = λ seated. absurd (cc);
-      owner = λ seated. absurd (cc);
-      slot = λ seated. absurd (cc);
-    };
-  };
-}
-begins number Writing capacity dropped lending some = record {
-  lent = record {
-    begun = refl;
-    goods = refl;
-    some = some;
-    holds = refl;
-    within = omega arith;
-    shut_is = refl;
-  };
-  flow = record {
-    closed_is = refl;
-    out = [];
-    inside = refl;
-    removed = refl;
-    begun = ([], refl);
-    written_is = (refl, refl);
-    sound = λ none. refl;
-    ungot = refl;
-    ungiven = refl;
-    unclosed = λ is. absurd (cc);
-  };
-  result = record { slot = (refl, refl); over_is = refl; let_go = λ is. absurd (cc) };
-  seats = record {
-    job = refl;
-    owner = refl;
-    slot = refl;
-    reason = record {
-      job = λ seated. absurd (cc);
-      owner = λ seated. absurd (cc);
-      slot = λ seated. absurd (cc);
-    };
-  };
-}
-begins number (Seeking goal) capacity dropped lending some = record {
-  lent = record {
-    begun = refl;
-    goods = refl;
-    some = some;
-    holds = refl;
-    within = omega arith;
-    shut_is = refl;
-  };
-  flow = record {
-    plain = record {
-      closed_is = refl;
-      inside = refl;
-      unseated = refl;
-      ungot = refl;
-      unfilled = refl;
-      ungiven = refl;
-      unfound = refl;
-      unwritten = refl;
-    };
-    next_is = tt;
-    place = λ is. absurd (cc);
-  };
-  result = record { slot = (refl, refl); over_is = refl; let_go = λ is. absurd (cc) };
-  seats = record {
-    job = refl;
-    owner = refl;
-    slot = refl;
-    reason = record {
-      job = λ seated. absurd (cc);
-      owner = λ seated. absurd (cc);
-      slot = λ seated. absurd (cc);
-    };
-  };
-}
-begins number Operating capacity dropped lending some = record {
-  lent = record {
-    begun = refl;
-    goods = refl;
-    some = some;
-    holds = refl;
-    within = omega arith;
-    shut_is = refl;
-  };
-  flow = record {
-    plain = record {
-      closed_is = refl;
-      inside = refl;
-      unseated = refl;
-      ungot = refl;
-      unfilled = refl;
-      ungiven = refl;
-      unfound = refl;
-      unwritten = refl;
-    };
-    next_is = tt;
-  };
-  result = record { slot = (refl, refl); over_is = refl; let_go = λ is. absurd (cc) };
-  seats = record {
-    job = refl;
-    owner = refl;
-    slot = refl;
-    reason = record {
-      job = λ seated. absurd (cc);
-      owner = λ seated. absurd (cc);
-      slot = λ seated. absurd (cc);
-    };
-  };
-}
-begins number _ capacity dropped lending some = absurd lending

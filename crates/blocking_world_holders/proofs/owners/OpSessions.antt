@@ -10,6 +10,7 @@ use Rattle.blocking_world_holders.proofs.Words.{next_but_wake, gave, peeked, tak
 use Rattle.blocking_world_holders.proofs.Words.{PlainFlow, SessionAs, Session}
 use Rattle.blocking_world_holders.proofs.owners.ReadSessions.{At, tied_at, unseated, going, still}
 use Rattle.blocking_world_holders.proofs.owners.SeekSessions.{plain_answer, counts_none}
+use Rattle.blocking_world_holders.proofs.owners.Drains.{lent_with}
 
 -- nothing went through the pipe, whatever is kept, and whatever stands in the place of the result
 plain_with : (s : Session) (kept : ℕ) (result : Slot ℕ (Unit {0})) (took accepted : List ℕ)
@@ -36,14 +37,7 @@ module _ (s : Session) (capacity : ℕ) (last : Option SeenSession) (shut back d
   pub kept_with : (kept : ℕ) (result : Slot ℕ (Unit {0})) → Tied s acts
       → Tied (record s { item = kept; result = result }) acts
   kept_with kept result t = record {
-    lent = record {
-      begun = t.lent.begun;
-      goods = t.lent.goods;
-      some = t.lent.some;
-      holds = t.lent.holds;
-      within = t.lent.within;
-      shut_is = t.lent.shut_is;
-    };
+    lent = lent_with s t.lent t.lent.within;
     flow = record {
       plain = plain_with s kept result took accepted (has_closed acts) (gave acts) (peeked acts)
           (taken acts) t.flow.plain;
@@ -91,14 +85,7 @@ module _ (s : Session) (capacity : ℕ) (last : Option SeenSession) (shut back d
       → At s Operating capacity last shut back dropped took accepted acts js ps ss PutResult
       → Tied (record s { result = result }) (ResultPut waker ∷ acts)
   result_puts waker result t = record {
-    lent = record {
-      begun = t.lent.begun;
-      goods = t.lent.goods;
-      some = t.lent.some;
-      holds = t.lent.holds;
-      within = t.lent.within;
-      shut_is = t.lent.shut_is;
-    };
+    lent = lent_with s t.lent t.lent.within;
     flow = record {
       plain = plain_with s s.item result took accepted (has_closed acts) (gave acts) (peeked acts)
           (taken acts) t.flow.plain;

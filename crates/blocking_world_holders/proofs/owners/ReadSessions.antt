@@ -1,7 +1,8 @@
 -- The session of an owner after each act of its job.
 use Rattle.std.proofs.Common.{◌≡◌, ℕ, ◌<◌, ◌≤◌, ◌==◌, List, [], ◌∷◌, ◌++◌, length, length-append}
 use Rattle.std.proofs.Common.{append_assoc, Bool, true, false, refl, sym, ap, ◌∙◌, subst, arith}
-use Rattle.std.proofs.Common.{Option, None, if◌then◌else◌, inl, inr, ◌||◌, ◌+◌, ◌-◌, nat_le, not}
+use Rattle.std.proofs.Common.{Option, Some, None, if◌then◌else◌, inl, inr, ◌||◌, ◌+◌, ◌-◌, nat_le}
+use Rattle.std.proofs.Common.{not}
 use Rattle.std.proofs.Common.{take, is_some, eqb-true, append-nil}
 use Rattle.std.proofs.lemmas.Bool.{or_left, or_right}
 use Rattle.std.proofs.lemmas.Bool.Decides.{nat_tests}
@@ -24,7 +25,8 @@ use Rattle.blocking_world_holders.proofs.Words.{SessionAs, SlotAs, is_finding, p
 use Rattle.blocking_world_holders.proofs.Words.{session_after_finish, session_after_give_up}
 use Rattle.blocking_world_holders.proofs.Words.{session_after_job_close, session_after_put}
 use Rattle.blocking_world_holders.proofs.Words.{session_after_room}
-use Rattle.blocking_world_holders.proofs.owners.Drains.{flow_with, written_with, plain_still}
+use Rattle.blocking_world_holders.proofs.owners.Drains.{lent_with, job_sits, flow_with}
+use Rattle.blocking_world_holders.proofs.owners.Drains.{written_with, plain_still}
 use Rattle.blocking_world_holders.proofs.owners.Drains.{same_stuck, same_owner_stuck}
 
 -- ---- what a job finds
@@ -270,14 +272,7 @@ module _ (s : Session) (kind : Kind) (capacity : ℕ) (last : Option SeenSession
       let none = (going s.slot.content (has_finished acts) (has_given_up acts) back dropped
       (fault kind acts) t.result).stays in
       record {
-        lent = record {
-          begun = t.lent.begun;
-          goods = t.lent.goods;
-          some = t.lent.some;
-          holds = t.lent.holds;
-          within = t.lent.within;
-          shut_is = t.lent.shut_is;
-        };
+        lent = lent_with s t.lent t.lent.within;
         flow = closed_flow s kind shut took accepted acts waker t.flow;
         result = t.result;
         seats = record {
@@ -308,14 +303,7 @@ module _ (s : Session) (kind : Kind) (capacity : ℕ) (last : Option SeenSession
       let full = ap (λ (l : Slot (Option (Fault ℕ)) (Unit {0})). l.content) put in
       let out = ap (λ (l : Slot (Option (Fault ℕ)) (Unit {0})). l.seat) put in
       record {
-        lent = record {
-          begun = t.lent.begun;
-          goods = t.lent.goods;
-          some = t.lent.some;
-          holds = t.lent.holds;
-          within = t.lent.within;
-          shut_is = t.lent.shut_is;
-        };
+        lent = lent_with s t.lent t.lent.within;
         flow = finished_flow s (slot_after s.slot.content s.slot.seat why) kind shut took accepted
             acts waker leaves t.flow;
         result = record {
@@ -353,14 +341,7 @@ module _ (s : Session) (kind : Kind) (capacity : ℕ) (last : Option SeenSession
       let full = ap (λ (l : Slot (Option (Fault ℕ)) (Unit {0})). l.content) given in
       let out = ap (λ (l : Slot (Option (Fault ℕ)) (Unit {0})). l.seat) given in
       record {
-        lent = record {
-          begun = t.lent.begun;
-          goods = t.lent.goods;
-          some = t.lent.some;
-          holds = t.lent.holds;
-          within = t.lent.within;
-          shut_is = t.lent.shut_is;
-        };
+        lent = lent_with s t.lent t.lent.within;
         flow = left_flow s (slot_without_job s.slot.content s.slot.seat) kind shut took accepted
             (next_but_wake kind acts) acts waker t.flow;
         result = record {
@@ -444,40 +425,14 @@ module _ (s : Session) (capacity : ℕ) (last : Option SeenSession) (shut back d
   parks found e t =
       let full = no_room (room s.pipe) s.pipe.is_owner_open found in
       record {
-        lent = record {
-          begun = t.lent.begun;
-          goods = t.lent.goods;
-          some = t.lent.some;
-          holds = t.lent.holds;
-          within = t.lent.within;
-          shut_is = t.lent.shut_is;
-        };
-        flow = record {
-          closed_is = t.flow.closed_is;
-          inside = t.flow.inside;
-          put = t.flow.put;
-          bounded = t.flow.bounded;
-          sound = t.flow.sound;
-          passed_is = t.flow.passed_is;
-          unclosed = t.flow.unclosed;
-          unwritten = t.flow.unwritten;
-        };
+        lent = lent_with s t.lent t.lent.within;
+        flow = flow_with s s.pipe.is_job_open s.pipe.is_owner_open (Some s.number) s.pipe.owner_seat
+            s.slot t.flow.closed_is t.flow.passed_is t.flow.unclosed t.flow;
         result = t.result;
-        seats = record {
-          job = refl;
-          owner = t.seats.owner;
-          slot = t.seats.slot;
-          reason = record {
-            job = λ seated. (
-              or_left (is_finding (next_but_wake Reading acts)) (has_given_up acts)
-                  (ap is_finding e),
-              full.0,
-              full.1,
-            );
-            owner = t.seats.reason.owner;
-            slot = t.seats.reason.slot;
-          };
-        };
+        seats = job_sits s t.seats
+            (or_left (is_finding (next_but_wake Reading acts)) (has_given_up acts)
+            (ap is_finding e))
+            full;
       }
 
 -- ---- its reader answers
@@ -625,14 +580,7 @@ module _ (s : Session) (capacity : ℕ) (last : Option SeenSession) (shut back d
       let more : was_put acts ++ take (length bytes) (answered acts) ≡ was_put acts ++ bytes =
       ap (λ l. was_put acts ++ l) whole in
       record {
-        lent = record {
-          begun = t.lent.begun;
-          goods = t.lent.goods;
-          some = t.lent.some;
-          holds = t.lent.holds;
-          within = rw length-append (omega (arith, within, holds, fits));
-          shut_is = t.lent.shut_is;
-        };
+        lent = lent_with s t.lent (rw length-append (omega (arith, within, holds, fits)));
         flow = record {
           closed_is = t.flow.closed_is;
           inside = more ∙ ap (λ l. l ++ bytes) t.flow.inside ∙ append_assoc took s.pipe.items bytes;
