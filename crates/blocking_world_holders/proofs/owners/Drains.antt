@@ -13,12 +13,10 @@ use Rattle.blocking_world_holders.proofs.Words.{Reading, Seeking, SendItem, Stre
 use Rattle.blocking_world_holders.proofs.Words.{fault, has_finished, has_given_up, is_over}
 use Rattle.blocking_world_holders.proofs.Words.{next_but_wake, SeenSession, FlowAs, Flows, IsDone}
 use Rattle.blocking_world_holders.proofs.Words.{IsDrained, IsOwnerStuckIn, IsStuckIn, LentAs}
-use Rattle.blocking_world_holders.proofs.Words.{Passed}
-use Rattle.blocking_world_holders.proofs.Words.{PassedAs, PlainFlow, SeatsAs, SessionAs, SlotAs}
-use Rattle.blocking_world_holders.proofs.Words.{WriteFlowAs}
-use Rattle.blocking_world_holders.proofs.Words.{WrittenAs, Wrote, is_piped_kind, passed_by}
-use Rattle.blocking_world_holders.proofs.Words.{first_action, wrote_by, OfNothing, Session}
-use Rattle.blocking_world_holders.proofs.Words.{goods_of, new_session}
+use Rattle.blocking_world_holders.proofs.Words.{Passed, PassedAs, PlainFlow, SeatsAs, SessionAs}
+use Rattle.blocking_world_holders.proofs.Words.{SlotAs, WriteFlowAs, WrittenAs, Wrote}
+use Rattle.blocking_world_holders.proofs.Words.{is_piped_kind, passed_by, first_action, wrote_by}
+use Rattle.blocking_world_holders.proofs.Words.{OfNothing, Session, goods_of, new_session}
 use Rattle.blocking_world_holders.proofs.Words.{session_after_close, session_after_drain}
 use Rattle.blocking_world_holders.proofs.Words.{session_after_look}
 

@@ -1,6 +1,6 @@
 -- What is seen of the steps of owners: acts that no pool decides, and a new job only where a
 -- session begins.
-use Rattle.std.proofs.Common.{◌≡◌, ℕ, List, [], ◌∷◌, length, Bool, true, false, refl, ap, subst}
+use Rattle.std.proofs.Common.{◌≡◌, ℕ, List, [], ◌∷◌, length, Bool, true, false, refl}
 use Rattle.std.proofs.Common.{Option, Some, None, if◌then◌else◌}
 use Rattle.blocking_world_holders.proofs.Types.{Fault, ItemAction, OpAction, ReadAction, SeekAction}
 use Rattle.blocking_world_holders.proofs.Types.{WriteAction, OwnerAction, Act, Told, HandleCall}
@@ -26,7 +26,7 @@ use Rattle.blocking_world_holders.proofs.Words.{streamer_works, work_at_put, wor
 use Rattle.blocking_world_holders.proofs.Words.{work_of_consume, writer_works, ItemProgress}
 use Rattle.blocking_world_holders.proofs.Words.{WriteProgress}
 use Rattle.blocking_world_holders.proofs.owners.Goods.{piped_some, through_some}
-use Rattle.blocking_world_holders.proofs.owners.Polls.{value_of}
+use Rattle.blocking_world_holders.proofs.owners.Polls.{moved}
 
 -- Such an act is seen, and accepts these jobs.
 pub record IsPlain (jobs : List ℕ) (act : Act) : Type 0 where
@@ -39,10 +39,6 @@ pub record IsPlain (jobs : List ℕ) (act : Act) : Type 0 where
 abbrev pub brought : OwnerStep → List ℕ
 brought (Begins number) = number.serial ∷ []
 brought _ = []
-
--- a value that is there has what holds of it
-moved : {A : Type 0} (P : A → Type 0) (x y : A) → Some x ≡ Some y → P x → P y
-moved P x y e so = subst P (ap (value_of y) e) so
 
 plain_drain : (met : Met (List ℕ × Option JobNumber)) (p : OwnerMachine ℕ) (s : Session)
     (owner : Owner) → IsPlain [] (drain_did met p s owner).act

@@ -23,36 +23,32 @@ use Rattle.blocking_world_holders.proofs.Words.{Seeking, SendItem, Streaming, Wr
 use Rattle.blocking_world_holders.proofs.Words.{has_finished, has_given_up, has_result, is_answer}
 use Rattle.blocking_world_holders.proofs.Words.{is_over, is_taken, job_next_after_answer}
 use Rattle.blocking_world_holders.proofs.Words.{next_but_wake, next_of_job, number, piece}
-use Rattle.blocking_world_holders.proofs.Words.{takes_waker, job_wake_first, JobActs, Works}
-use Rattle.blocking_world_holders.proofs.Words.{is_job_seated, job_seated_by, pipe_seat}
-use Rattle.blocking_world_holders.proofs.Words.{pipe_seated_by, place_of, result_seat}
-use Rattle.blocking_world_holders.proofs.Words.{result_seated_by, slot_seat, slot_seated_by}
-use Rattle.blocking_world_holders.proofs.Words.{next_of_owner, owner_next_but_wake, accepted, got}
-use Rattle.blocking_world_holders.proofs.Words.{inside, is_serial, room_in, seated, seen_peek}
-use Rattle.blocking_world_holders.proofs.Words.{seen_put, seen_room, waker_in, acts_of, is_nothing}
-use Rattle.blocking_world_holders.proofs.Words.{is_of_pool, own, SeenSession, seen_call}
+use Rattle.blocking_world_holders.proofs.Words.{takes_waker, JobActs, Works, is_job_seated}
+use Rattle.blocking_world_holders.proofs.Words.{job_seated_by, pipe_seat, pipe_seated_by, place_of}
+use Rattle.blocking_world_holders.proofs.Words.{result_seat, result_seated_by, slot_seat}
+use Rattle.blocking_world_holders.proofs.Words.{slot_seated_by, next_of_owner, owner_next_but_wake}
+use Rattle.blocking_world_holders.proofs.Words.{accepted, got, inside, is_serial, room_in, seated}
+use Rattle.blocking_world_holders.proofs.Words.{seen_peek, seen_put, seen_room, waker_in, acts_of}
+use Rattle.blocking_world_holders.proofs.Words.{is_nothing, is_of_pool, own, SeenSession, seen_call}
 use Rattle.blocking_world_holders.proofs.Words.{seen_is_dropped, seen_is_shut, jobs_of, kind_of_job}
 use Rattle.blocking_world_holders.proofs.Words.{seen_last_session, seen_session, seen_state}
 use Rattle.blocking_world_holders.proofs.Words.{was_woken, OperationAs, OpProgress}
-use Rattle.blocking_world_holders.proofs.Words.{operation_action_as, operation_action_of}
-use Rattle.blocking_world_holders.proofs.Words.{by_its_job, IsAtEnd, OwnerAs, PlaceAs, PlaceBy}
-use Rattle.blocking_world_holders.proofs.Words.{ResultAs, SessionAs, StageBy, has_found, is_seated}
-use Rattle.blocking_world_holders.proofs.Words.{newest_note, ReadProgress as Progress, ReadAs}
-use Rattle.blocking_world_holders.proofs.Words.{read_action_as as action_as}
+use Rattle.blocking_world_holders.proofs.Words.{operation_action_of, by_its_job, IsAtEnd, OwnerAs}
+use Rattle.blocking_world_holders.proofs.Words.{PlaceAs, PlaceBy, ResultAs, SessionAs, StageBy}
+use Rattle.blocking_world_holders.proofs.Words.{has_found, is_seated, newest_note}
+use Rattle.blocking_world_holders.proofs.Words.{ReadProgress as Progress, ReadAs}
 use Rattle.blocking_world_holders.proofs.Words.{read_action_of as action_of, SeekProgress, SeekAs}
-use Rattle.blocking_world_holders.proofs.Words.{seek_action_as, seek_action_of, Session, Work}
-use Rattle.blocking_world_holders.proofs.Words.{finish_wakes, fits_in, found_piece, found_put}
-use Rattle.blocking_world_holders.proofs.Words.{found_room, found_send, give_up_wakes}
-use Rattle.blocking_world_holders.proofs.Words.{operation_finishes, operation_puts, result_wakes}
-use Rattle.blocking_world_holders.proofs.Words.{seek_finishes, session_after_give_up}
-use Rattle.blocking_world_holders.proofs.Words.{session_after_job_close, streamer_closes}
-use Rattle.blocking_world_holders.proofs.Words.{streamer_finishes, work_at_peek, work_at_put}
-use Rattle.blocking_world_holders.proofs.Words.{work_at_room, work_at_send, work_of_close}
-use Rattle.blocking_world_holders.proofs.Words.{work_of_consume, work_of_finish, writer_closes}
-use Rattle.blocking_world_holders.proofs.Words.{writer_finishes, ItemAs, ItemProgress}
-use Rattle.blocking_world_holders.proofs.Words.{item_action_as, item_action_of, WriteProgress}
-use Rattle.blocking_world_holders.proofs.Words.{WriteAs, write_action_as, write_action_of}
-use Rattle.blocking_world_holders.proofs.Words.{write_fault_of}
+use Rattle.blocking_world_holders.proofs.Words.{seek_action_of, Session, Work, finish_wakes}
+use Rattle.blocking_world_holders.proofs.Words.{fits_in, found_piece, found_put, found_room}
+use Rattle.blocking_world_holders.proofs.Words.{found_send, give_up_wakes, operation_finishes}
+use Rattle.blocking_world_holders.proofs.Words.{operation_puts, result_wakes, seek_finishes}
+use Rattle.blocking_world_holders.proofs.Words.{session_after_give_up, session_after_job_close}
+use Rattle.blocking_world_holders.proofs.Words.{streamer_closes, streamer_finishes, work_at_peek}
+use Rattle.blocking_world_holders.proofs.Words.{work_at_put, work_at_room, work_at_send}
+use Rattle.blocking_world_holders.proofs.Words.{work_of_close, work_of_consume, work_of_finish}
+use Rattle.blocking_world_holders.proofs.Words.{writer_closes, writer_finishes, ItemAs}
+use Rattle.blocking_world_holders.proofs.Words.{ItemProgress, item_action_of, WriteProgress}
+use Rattle.blocking_world_holders.proofs.Words.{WriteAs, write_action_of, write_fault_of}
 use Rattle.blocking_world_laws.specs.OwnerTable as law
 use Rattle.blocking_world_holders.proofs.owners.Jobs.{no_wait}
 use Rattle.blocking_world_holders.proofs.owners.Cuts.{its_kind, kind_is, inside_is, next_stays}

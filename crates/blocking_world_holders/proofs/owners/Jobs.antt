@@ -15,19 +15,18 @@ use Rattle.blocking_world_holders.proofs.Words.{OpProgress, Owner, Worked, opera
 use Rattle.blocking_world_holders.proofs.Words.{read_as, read_in, seek_as, seek_in, stream_as}
 use Rattle.blocking_world_holders.proofs.Words.{stream_in, worked, worked_by, write_as, write_in}
 use Rattle.blocking_world_holders.proofs.Words.{OfBytes, OfItems, through, ReadProgress, ReadAs}
-use Rattle.blocking_world_holders.proofs.Words.{read_action_as, SeekProgress, SeekAs, JobAs}
-use Rattle.blocking_world_holders.proofs.Words.{Session, Work, closing_wakes, finish_wakes, fits_in}
-use Rattle.blocking_world_holders.proofs.Words.{found_piece, found_put, found_room, found_send}
-use Rattle.blocking_world_holders.proofs.Words.{holds, operation_works, result_wakes, seek_works}
+use Rattle.blocking_world_holders.proofs.Words.{SeekProgress, SeekAs, JobAs, Session, Work}
+use Rattle.blocking_world_holders.proofs.Words.{closing_wakes, finish_wakes, fits_in, found_piece}
+use Rattle.blocking_world_holders.proofs.Words.{found_put, found_room, found_send, holds}
+use Rattle.blocking_world_holders.proofs.Words.{operation_works, result_wakes, seek_works}
 use Rattle.blocking_world_holders.proofs.Words.{streamer_closes, streamer_finishes, streamer_works}
 use Rattle.blocking_world_holders.proofs.Words.{work_at_peek, work_at_put, work_at_room}
 use Rattle.blocking_world_holders.proofs.Words.{work_at_send, work_by, work_of_close}
 use Rattle.blocking_world_holders.proofs.Words.{work_of_consume, work_of_finish, writer_closes}
 use Rattle.blocking_world_holders.proofs.Words.{writer_finishes, writer_works, ItemAs, ItemProgress}
-use Rattle.blocking_world_holders.proofs.Words.{item_action_as, WriteProgress, WriteAs}
-use Rattle.blocking_world_holders.proofs.Words.{write_action_as, write_fault_of}
+use Rattle.blocking_world_holders.proofs.Words.{WriteProgress, WriteAs, write_fault_of}
 use Rattle.blocking_world_holders.proofs.owners.Goods.{through_some}
-use Rattle.blocking_world_holders.proofs.owners.Polls.{value_of}
+use Rattle.blocking_world_holders.proofs.owners.Polls.{moved}
 use Rattle.blocking_world_holders.proofs.owners.ReadSessions.{some_room}
 use Rattle.blocking_world_holders.proofs.owners.WriteSessions.{some_piece}
 use Rattle.blocking_world_holders.proofs.owners.ReadJobs as of_reader
@@ -55,11 +54,6 @@ nothing_first (suc n) (x ∷ xs) some e = absurd (cc)
 
 no_more_than : (n : ℕ) (items : List ℕ) → length (take n items) ≤ n
 no_more_than n items = let many = length-take n items in omega (arith, many)
-
--- what is done is what was found to do
-moved : {J : Type 0} (P : Work J → Type 0) (made work : Work J) → Some made ≡ Some work → P made
-    → P work
-moved P made work e so = subst P (ap (value_of made) e) so
 
 -- ---- a job that reads, at its session
 
@@ -216,7 +210,7 @@ seeks_on : (p : SeekProgress) (acts : List Act) (s : Session) → SeekAs p acts 
     → SeekAs work.job (work.act ∷ acts)
 seeks_on p acts s r SeekAction.Finish is work does =
     let woke = finish_wakes p.fault s in
-    subst (λ (w : Work SeekProgress). SeekAs w.job (w.act ∷ acts)) (ap (value_of work) does)
+    moved (λ (w : Work SeekProgress). SeekAs w.job (w.act ∷ acts)) _ work does
     (of_seeker.meets p acts SeekAction.Done woke (SeekAnswer.Finished woke)
     (Finished (waker_in woke)) (of_seeker.does p acts r is (λ e. cc)) refl refl (taken_is woke)
     r.fault_is r.place_is)
@@ -230,13 +224,13 @@ operates_on : (p : OpProgress) (acts : List Act) (s : Session) → OperationAs p
     → OperationAs work.job (work.act ∷ acts)
 operates_on p acts s r OpAction.PutResult is work does =
     let woke = result_wakes p.number s in
-    subst (λ (w : Work OpProgress). OperationAs w.job (w.act ∷ acts)) (ap (value_of work) does)
+    moved (λ (w : Work OpProgress). OperationAs w.job (w.act ∷ acts)) _ work does
     (of_operator.meets p acts OpAction.Finish woke (OpAnswer.ResultPut woke)
     (ResultPut (waker_in woke)) (of_operator.does p acts r is (λ e. cc)) refl refl (taken_is woke)
     r.fault_is r.number_is)
 operates_on p acts s r OpAction.Finish is work does =
     let woke = finish_wakes None s in
-    subst (λ (w : Work OpProgress). OperationAs w.job (w.act ∷ acts)) (ap (value_of work) does)
+    moved (λ (w : Work OpProgress). OperationAs w.job (w.act ∷ acts)) _ work does
     (of_operator.meets p acts OpAction.Done woke (OpAnswer.Finished woke)
     (Finished (waker_in woke)) (of_operator.does p acts r is (λ e. cc)) refl refl (taken_is woke)
     r.fault_is r.number_is)
@@ -244,17 +238,21 @@ operates_on p acts s r _ is work does = absurd (cc)
 
 -- ---- a job of an owner
 
+-- how far a job is that had done this before
+abbrev IsAt : List Act → Worked → Type 0
+IsAt acts done = JobAs done.job (done.act ∷ acts)
+
 -- what an act at a session leaves of a job, if there is one
 at_work : (J : Type 0) (of : J → SessionJob) (acts : List Act) (owner : Owner) (o : Option (Work J))
     → ((work : Work J) → o ≡ Some work → JobAs (of work.job) (work.act ∷ acts))
-    → (done : Worked) → worked_by of o owner ≡ Some done → JobAs done.job (done.act ∷ acts)
+    → (done : Worked) → worked_by of o owner ≡ Some done → IsAt acts done
 at_work J of acts owner None so done does = absurd (cc)
 at_work J of acts owner (Some work) so done does =
-    subst (λ (d : Worked). JobAs d.job (d.act ∷ acts)) (ap (value_of done) does) (so work refl)
+    moved (IsAt acts) _ done does (so work refl)
 
 read_goes : (p : ReadProgress) (acts : List Act) (last : Option Session) (owner : Owner)
     → ReadAs p acts → (a : ReadAction) → read_next p.core ≡ a
-    → (done : Worked) → read_in a last p owner ≡ Some done → JobAs done.job (done.act ∷ acts)
+    → (done : Worked) → read_in a last p owner ≡ Some done → IsAt acts done
 read_goes p acts None owner r a is done does = absurd (cc)
 read_goes p acts (Some s) owner r a is done does = at_work ReadProgress SessionJob.Read
     acts owner (through OfBytes s.goods (work_by a p s)) (λ work e. reads_on p acts s r a is work
@@ -262,7 +260,7 @@ read_goes p acts (Some s) owner r a is done does = at_work ReadProgress SessionJ
 
 write_goes : (p : WriteProgress) (acts : List Act) (last : Option Session) (owner : Owner)
     → WriteAs p acts → (a : WriteAction) → write_next p.core ≡ a
-    → (done : Worked) → write_in a last p owner ≡ Some done → JobAs done.job (done.act ∷ acts)
+    → (done : Worked) → write_in a last p owner ≡ Some done → IsAt acts done
 write_goes p acts None owner r a is done does = absurd (cc)
 write_goes p acts (Some s) owner r a is done does = at_work WriteProgress SessionJob.Write acts
     owner (through OfBytes s.goods (writer_works a p s)) (λ work e. writes_on p acts s r a is work
@@ -270,7 +268,7 @@ write_goes p acts (Some s) owner r a is done does = at_work WriteProgress Sessio
 
 stream_goes : (p : ItemProgress) (acts : List Act) (last : Option Session) (owner : Owner)
     → ItemAs p acts → (a : ItemAction) → item_next p.core ≡ a
-    → (done : Worked) → stream_in a last p owner ≡ Some done → JobAs done.job (done.act ∷ acts)
+    → (done : Worked) → stream_in a last p owner ≡ Some done → IsAt acts done
 stream_goes p acts None owner r a is done does = absurd (cc)
 stream_goes p acts (Some s) owner r a is done does =
     at_work ItemProgress SessionJob.Items acts owner
@@ -279,14 +277,14 @@ stream_goes p acts (Some s) owner r a is done does =
 
 seek_goes : (p : SeekProgress) (acts : List Act) (last : Option Session) (owner : Owner)
     → SeekAs p acts → (a : SeekAction) → seek_next p.core ≡ a
-    → (done : Worked) → seek_in a last p owner ≡ Some done → JobAs done.job (done.act ∷ acts)
+    → (done : Worked) → seek_in a last p owner ≡ Some done → IsAt acts done
 seek_goes p acts None owner r a is done does = absurd (cc)
 seek_goes p acts (Some s) owner r a is done does = at_work SeekProgress SessionJob.Seek acts owner
     (seek_works a p s) (λ work e. seeks_on p acts s r a is work e) done does
 
 operate_goes : (p : OpProgress) (acts : List Act) (last : Option Session) (owner : Owner)
     → OperationAs p acts → (a : OpAction) → operation_next p.core ≡ a
-    → (done : Worked) → operate_in a last p owner ≡ Some done → JobAs done.job (done.act ∷ acts)
+    → (done : Worked) → operate_in a last p owner ≡ Some done → IsAt acts done
 operate_goes p acts None owner r a is done does = absurd (cc)
 operate_goes p acts (Some s) owner r a is done does = at_work OpProgress SessionJob.Operate acts
     owner (operation_works a p s) (λ work e. operates_on p acts s r a is work e) done does
@@ -296,36 +294,26 @@ pub worked_on : (p : SessionJob) (acts : List Act) (owner : Owner) (done : Worke
     → worked p owner ≡ Some done → JobAs done.job (done.act ∷ acts)
 worked_on (SessionJob.Read p) acts owner done r does = by (read_next p.core) refl does
   where
-    by : (a : ReadAction) → read_next p.core ≡ a → read_as a p owner ≡ Some done
-        → JobAs done.job (done.act ∷ acts)
-    by ReadAction.Deliver is does = subst (λ (d : Worked). JobAs d.job (d.act ∷ acts))
-        (ap (value_of done) does) (of_reader.wakes p acts r is)
+    by : (a : ReadAction) → read_next p.core ≡ a → read_as a p owner ≡ Some done → IsAt acts done
+    by ReadAction.Deliver is does = moved (IsAt acts) _ done does (of_reader.wakes p acts r is)
     by a is does = read_goes p acts owner.session owner r a is done does
 worked_on (SessionJob.Write p) acts owner done r does = by (write_next p.core) refl does
   where
-    by : (a : WriteAction) → write_next p.core ≡ a → write_as a p owner ≡ Some done
-        → JobAs done.job (done.act ∷ acts)
-    by WriteAction.Deliver is does = subst (λ (d : Worked). JobAs d.job (d.act ∷ acts))
-        (ap (value_of done) does) (of_writer.wakes p acts r is)
+    by : (a : WriteAction) → write_next p.core ≡ a → write_as a p owner ≡ Some done → IsAt acts done
+    by WriteAction.Deliver is does = moved (IsAt acts) _ done does (of_writer.wakes p acts r is)
     by a is does = write_goes p acts owner.session owner r a is done does
 worked_on (SessionJob.Items p) acts owner done r does = by (item_next p.core) refl does
   where
-    by : (a : ItemAction) → item_next p.core ≡ a → stream_as a p owner ≡ Some done
-        → JobAs done.job (done.act ∷ acts)
-    by ItemAction.Deliver is does = subst (λ (d : Worked). JobAs d.job (d.act ∷ acts))
-        (ap (value_of done) does) (of_streamer.wakes p acts r is)
+    by : (a : ItemAction) → item_next p.core ≡ a → stream_as a p owner ≡ Some done → IsAt acts done
+    by ItemAction.Deliver is does = moved (IsAt acts) _ done does (of_streamer.wakes p acts r is)
     by a is does = stream_goes p acts owner.session owner r a is done does
 worked_on (SessionJob.Seek p) acts owner done r does = by (seek_next p.core) refl does
   where
-    by : (a : SeekAction) → seek_next p.core ≡ a → seek_as a p owner ≡ Some done
-        → JobAs done.job (done.act ∷ acts)
-    by SeekAction.Deliver is does = subst (λ (d : Worked). JobAs d.job (d.act ∷ acts))
-        (ap (value_of done) does) (of_seeker.wakes p acts r is)
+    by : (a : SeekAction) → seek_next p.core ≡ a → seek_as a p owner ≡ Some done → IsAt acts done
+    by SeekAction.Deliver is does = moved (IsAt acts) _ done does (of_seeker.wakes p acts r is)
     by a is does = seek_goes p acts owner.session owner r a is done does
 worked_on (SessionJob.Operate p) acts owner done r does = by (operation_next p.core) refl does
   where
-    by : (a : OpAction) → operation_next p.core ≡ a → operate_as a p owner ≡ Some done
-        → JobAs done.job (done.act ∷ acts)
-    by OpAction.Deliver is does = subst (λ (d : Worked). JobAs d.job (d.act ∷ acts))
-        (ap (value_of done) does) (of_operator.wakes p acts r is)
+    by : (a : OpAction) → operation_next p.core ≡ a → operate_as a p owner ≡ Some done → IsAt acts done
+    by OpAction.Deliver is does = moved (IsAt acts) _ done does (of_operator.wakes p acts r is)
     by a is does = operate_goes p acts owner.session owner r a is done does

@@ -32,44 +32,44 @@ next_by kind acts = grind arith
 
 module _ {A : Type 0} (word : A → JobAction) (deliver : A) (calls : word deliver ≡ WakeHolder)
     (kind : Kind) (acts : List Act) (core : Machine A)
-    (next : word core.next ≡ next_but_wake kind acts) (waking : core.is_waking ≡ has_waker acts)
-  where
-    -- it does what the law says
-    pub law_is : next_of_job kind acts ≡ word (wake_first core.is_waking deliver core.next)
-    law_is =
-        next_by kind acts ∙ ap (λ b. job_wake_first b (next_but_wake kind acts)) (sym waking)
-        ∙ ap (job_wake_first core.is_waking) (sym next) ∙ by core.is_waking
-      where
-        by : (b : Bool) → job_wake_first b (word core.next) ≡ word (wake_first b deliver core.next)
-        by true = sym calls
-        by false = refl
+    (next : word core.next ≡ next_but_wake kind acts)
+    (waking : core.is_waking ≡ has_waker acts) where
+  -- it does what the law says
+  pub law_is : next_of_job kind acts ≡ word (wake_first core.is_waking deliver core.next)
+  law_is =
+      next_by kind acts ∙ ap (λ b. job_wake_first b (next_but_wake kind acts)) (sym waking)
+      ∙ ap (job_wake_first core.is_waking) (sym next) ∙ by core.is_waking
+    where
+      by : (b : Bool) → job_wake_first b (word core.next) ≡ word (wake_first b deliver core.next)
+      by true = sym calls
+      by false = refl
 
-    -- whoever does something else than calling a waker took none
-    pub does : {now : A} → wake_first core.is_waking deliver core.next ≡ now → (now ≡ deliver → ⊥)
-        → Does word kind acts core now
-    does {now} is other =
-        let awake : core ≡ machine now false = by core.is_waking core.next is in
-        record {
-          core_is = awake;
-          table = sym next ∙ ap (λ (c : Machine A). word c.next) awake;
-          law = law_is ∙ ap word is;
-        }
-      where
-        by : (b : Bool) (held : A) → wake_first b deliver held ≡ now
-            → machine held b ≡ machine now false
-        by true held is = absurd (other (sym is))
-        by false held is = ap (λ a. machine a false) is
+  -- whoever does something else than calling a waker took none
+  pub does : {now : A} → wake_first core.is_waking deliver core.next ≡ now → (now ≡ deliver → ⊥)
+      → Does word kind acts core now
+  does {now} is other =
+      let awake : core ≡ machine now false = by core.is_waking core.next is in
+      record {
+        core_is = awake;
+        table = sym next ∙ ap (λ (c : Machine A). word c.next) awake;
+        law = law_is ∙ ap word is;
+      }
+    where
+      by : (b : Bool) (held : A) → wake_first b deliver held ≡ now
+          → machine held b ≡ machine now false
+      by true held is = absurd (other (sym is))
+      by false held is = ap (λ a. machine a false) is
 
-    -- and so did whoever is to be answered
-    pub asks : {now : A} (answer : Answer) → wake_first core.is_waking deliver core.next ≡ now
-        → is_answer (word (wake_first core.is_waking deliver core.next)) answer ≡ true
-        → Asks word kind acts core answer now
-    asks {now} answer is asked =
-        let fits = ap (λ a. is_answer (word a) answer) (sym is) ∙ asked in
-        let asks_word = λ (e : now ≡ deliver).
-        ap (λ w. is_answer w answer) (sym calls) ∙ ap (λ a. is_answer (word a) answer) (sym e)
-        ∙ fits in
-        record { does = does is (λ e. let none = asks_word e in cc); fits = fits }
+  -- and so did whoever is to be answered
+  pub asks : {now : A} (answer : Answer) → wake_first core.is_waking deliver core.next ≡ now
+      → is_answer (word (wake_first core.is_waking deliver core.next)) answer ≡ true
+      → Asks word kind acts core answer now
+  asks {now} answer is asked =
+      let fits = ap (λ a. is_answer (word a) answer) (sym is) ∙ asked in
+      let asks_word = λ (e : now ≡ deliver).
+      ap (λ w. is_answer w answer) (sym calls) ∙ ap (λ a. is_answer (word a) answer) (sym e)
+      ∙ fits in
+      record { does = does is (λ e. let none = asks_word e in cc); fits = fits }
 
 -- what is answered asks, and isn't over
 pub asking_goes : (action : JobAction) (answer : Answer) → is_answer action answer ≡ true

@@ -1,11 +1,11 @@
 -- How far the job of a reader is after each of its acts.
 use Rattle.std.proofs.Common.{◌≡◌, ℕ, List, [], ◌∷◌, length, Bool, true, false, refl, sym, ap, ◌∙◌}
-use Rattle.std.proofs.Common.{Option, Some, if◌then◌else◌, nat_le, subst}
-use Rattle.blocking_world_holders.proofs.Types.{Fault, Io, ReadAction, ReadAnswer, Act, Answered}
+use Rattle.std.proofs.Common.{Option, if◌then◌else◌, nat_le, subst}
+use Rattle.blocking_world_holders.proofs.Types.{Fault, ReadAction, ReadAnswer, Act, Answered}
 use Rattle.blocking_world_holders.proofs.Types.{HolderWoken, Answer, Failed, Gave}
 use Rattle.blocking_world_holders.proofs.Words.{Machine, machine, read_after, read_by, read_next}
-use Rattle.blocking_world_holders.proofs.Words.{core_read_in as read_in, AskBytes, Reading}
-use Rattle.blocking_world_holders.proofs.Words.{job_earlier, fault, is_answer, next_but_wake}
+use Rattle.blocking_world_holders.proofs.Words.{core_read_in as read_in, AskBytes, Reading, fault}
+use Rattle.blocking_world_holders.proofs.Words.{is_answer, next_but_wake}
 use Rattle.blocking_world_holders.proofs.Words.{job_next_after_answer as next_after_answer}
 use Rattle.blocking_world_holders.proofs.Words.{takes_waker, ReadProgress as Progress, ReadAs}
 use Rattle.blocking_world_holders.proofs.Words.{read_action_as as action_as}

@@ -2,8 +2,7 @@
 use Rattle.std.proofs.Common.{◌≡◌, ℕ, ◌<◌, ◌≤◌, ◌==◌, List, [], ◌∷◌, ◌++◌, length, length-append}
 use Rattle.std.proofs.Common.{append_assoc, Bool, true, false, refl, sym, ap, ◌∙◌, subst, arith}
 use Rattle.std.proofs.Common.{Option, Some, None, if◌then◌else◌, inl, inr, ◌||◌, ◌+◌, ◌-◌, nat_le}
-use Rattle.std.proofs.Common.{not}
-use Rattle.std.proofs.Common.{take, is_some, eqb-true, append-nil}
+use Rattle.std.proofs.Common.{not, take, is_some, eqb-true, append-nil}
 use Rattle.std.proofs.lemmas.Bool.{or_left, or_right}
 use Rattle.std.proofs.lemmas.Bool.Decides.{nat_tests}
 use Rattle.std.proofs.Math.Seq.{take-length}
@@ -26,8 +25,8 @@ use Rattle.blocking_world_holders.proofs.Words.{session_after_finish, session_af
 use Rattle.blocking_world_holders.proofs.Words.{session_after_job_close, session_after_put}
 use Rattle.blocking_world_holders.proofs.Words.{session_after_room}
 use Rattle.blocking_world_holders.proofs.owners.Drains.{lent_with, job_sits, flow_with}
-use Rattle.blocking_world_holders.proofs.owners.Drains.{written_with, plain_still}
-use Rattle.blocking_world_holders.proofs.owners.Drains.{same_stuck, same_owner_stuck}
+use Rattle.blocking_world_holders.proofs.owners.Drains.{written_with, plain_still, same_stuck}
+use Rattle.blocking_world_holders.proofs.owners.Drains.{same_owner_stuck}
 
 -- ---- what a job finds
 

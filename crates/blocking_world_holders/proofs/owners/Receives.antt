@@ -1,8 +1,7 @@
 -- The session of an owner that takes items after each act of the owner itself.
 use Rattle.std.proofs.Common.{◌≡◌, ℕ, ◌≤◌, List, [], ◌∷◌, ◌++◌, length, length-append, append_assoc}
 use Rattle.std.proofs.Common.{Bool, true, false, refl, sym, ap, ◌∙◌, arith, Option, Some, ◌||◌, ◌-◌}
-use Rattle.std.proofs.Common.{drop}
-use Rattle.std.proofs.Common.{length-drop}
+use Rattle.std.proofs.Common.{drop, length-drop}
 use Rattle.blocking_world_holders.proofs.Types.{Act}
 use Rattle.blocking_world_holders.proofs.Words.{room, Closed, Served, Waiting, receive, JobNumber}
 use Rattle.blocking_world_holders.proofs.Words.{Streaming, has_given_up, next_but_wake, SeenSession}

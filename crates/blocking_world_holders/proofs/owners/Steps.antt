@@ -51,9 +51,9 @@ use Rattle.blocking_world_holders.proofs.owners.JobActs.{give_up_goes, peek_work
 use Rattle.blocking_world_holders.proofs.owners.JobActs.{writer_close_works, writer_finish_works}
 use Rattle.blocking_world_holders.proofs.owners.JobActs.{writer_answer_goes, item_answer_goes}
 use Rattle.blocking_world_holders.proofs.owners.JobActs.{send_works, streamer_close_works}
-use Rattle.blocking_world_holders.proofs.owners.JobActs.{streamer_finish_works}
-use Rattle.blocking_world_holders.proofs.owners.JobActs.{seek_finish_works, seek_answer_goes}
-use Rattle.blocking_world_holders.proofs.owners.JobActs.{result_works, operation_finish_works}
+use Rattle.blocking_world_holders.proofs.owners.JobActs.{streamer_finish_works, seek_finish_works}
+use Rattle.blocking_world_holders.proofs.owners.JobActs.{seek_answer_goes, result_works}
+use Rattle.blocking_world_holders.proofs.owners.JobActs.{operation_finish_works}
 use Rattle.blocking_world_holders.proofs.owners.JobActs.{operation_answer_goes}
 use Rattle.blocking_world_holders.proofs.owners.Asked.{both_true}
 use Rattle.blocking_world_holders.proofs.owners.Polls.{Goes, owner_by_parts, bound, value_of, doing}
@@ -218,7 +218,8 @@ module _ (bytes client : ℕ) (asked : Option HandleCall) (here : OwnerStage) (h
   does_so J job_of s t (Some work) works done does =
       subst (WorkGoes s.number.serial) (ap (value_of done) does) (works work refl)
 
-  -- a job of this kind acts at the session, by what it finds to do there
+  -- a job of this kind acts at the session, by what it finds to do there, which is nothing once it
+  -- is over
   at_session : (J : Type 0) (job_of : J → SessionJob) (of : Kind) (next : JobAction) (n : ℕ)
       (s : Session) (t : OwnerAs (owner_by_parts bytes client asked here (Some s)) cut)
       → is_in n (jobs_of (own cut)) ≡ true → kind_of_job n (own cut) ≡ of
@@ -405,8 +406,7 @@ module _ (bytes client : ℕ) (asked : Option HandleCall) (here : OwnerStage) (h
       there a is other None t does = absurd (nothing does)
       there a is other (Some s) t does =
           at_session WriteProgress SessionJob.Write Writing (write_action_as p.piece a) n s t among
-          of
-          (of_writer.does p (acts_of n cut) r is other).table
+          of (of_writer.does p (acts_of n cut) r is other).table
           (through OfBytes s.goods (writer_works a p s)) (idle s a)
           (λ same kind its work e. writer_at s t p (subst (λ m. WriteAs p (acts_of m cut)) same r)
           kind its a is work (through_some OfBytes s.goods (writer_works a p s) work e).1) done does
@@ -443,8 +443,7 @@ module _ (bytes client : ℕ) (asked : Option HandleCall) (here : OwnerStage) (h
       there a is other None t does = absurd (nothing does)
       there a is other (Some s) t does =
           at_session ItemProgress SessionJob.Items Streaming (item_action_as p.item a) n s t among
-          of
-          (of_streamer.does p (acts_of n cut) r is other).table
+          of (of_streamer.does p (acts_of n cut) r is other).table
           (through OfItems s.goods (streamer_works a p s)) (idle s a)
           (λ same kind its work e. streamer_at s t p (subst (λ m. ItemAs p (acts_of m cut)) same r)
           kind its a is work
@@ -482,8 +481,7 @@ module _ (bytes client : ℕ) (asked : Option HandleCall) (here : OwnerStage) (h
       there a is other None t does = absurd (nothing does)
       there a is other (Some s) t does =
           at_session SeekProgress SessionJob.Seek (Seeking p.goal) (seek_action_as a) n s t among of
-          (of_seeker.does p (acts_of n cut) r is other).table
-          (seek_works a p s) (idle s a)
+          (of_seeker.does p (acts_of n cut) r is other).table (seek_works a p s) (idle s a)
           (λ same kind its work e. seeker_at s t p (subst (λ m. SeekAs p (acts_of m cut)) same r)
           kind its a is work e) done does
 
@@ -518,8 +516,7 @@ module _ (bytes client : ℕ) (asked : Option HandleCall) (here : OwnerStage) (h
       there a is other None t does = absurd (nothing does)
       there a is other (Some s) t does =
           at_session OpProgress SessionJob.Operate Operating (operation_action_as a) n s t among of
-          (of_operator.does p (acts_of n cut) r is other).table
-          (operation_works a p s) (idle s a)
+          (of_operator.does p (acts_of n cut) r is other).table (operation_works a p s) (idle s a)
           (λ same kind its work e.
           operator_at s t p (subst (λ m. OperationAs p (acts_of m cut)) same r)
           kind its a is work e) done does
