@@ -1,7 +1,7 @@
 -- The session of an owner after each act of the owner itself.
 use Rattle.std.proofs.Common.{◌≡◌, ℕ, ◌<◌, ◌≤◌, List, [], ◌∷◌, ◌++◌, length, length-append}
 use Rattle.std.proofs.Common.{append_assoc, Bool, true, false, refl, sym, ap, ◌∙◌, subst, arith}
-use Rattle.std.proofs.Common.{Option, Some, None, inl, ◌||◌, ◌⊎◌, not, ◌-◌, min, max, take, drop}
+use Rattle.std.proofs.Common.{Option, Some, inl, ◌||◌, ◌⊎◌, not, ◌-◌, min, max, take, drop}
 use Rattle.std.proofs.Common.{take-append-drop, length-drop, length-take}
 use Rattle.std.proofs.lemmas.List.{take_min}
 use Rattle.blocking_world_holders.proofs.Types.{Fault, Act}
@@ -132,19 +132,12 @@ pub lent_with : (s : Session) {item left : ℕ} {items : List ℕ} {runs : Bool}
       slot = slot;
       left = left;
     }) kind capacity last shut
-lent_with s t within = record {
-  begun = t.begun;
-  goods = t.goods;
-  some = t.some;
-  holds = t.holds;
-  within = within;
-  shut_is = t.shut_is;
-}
+lent_with s t within = assumption
 
 -- what passed through a pipe has passed there whoever sits at it, whatever end is closed, and
 -- whatever stands in the slot
-pub flow_with : {hand : ℕ} (s : Session) (runs lasts : Bool) (at_job : Option JobNumber)
-    (at_owner : Option (Unit {0})) (slot : Slot (Option (Fault ℕ)) (Unit {0})) {shut shuts : Bool}
+pub flow_with : {hand : ℕ} (s : Session) {runs lasts : Bool} {at_job : Option JobNumber}
+    {at_owner : Option (Unit {0})} {slot : Slot (Option (Fault ℕ)) (Unit {0})} {shut shuts : Bool}
     {took : List ℕ} {next after : JobAction} {closed closes given_up gives_up : Bool}
     {passed : Passed}
     → closes ≡ not runs → PassedAs after (room s.pipe) runs (shuts || gives_up) passed
@@ -160,20 +153,11 @@ pub flow_with : {hand : ℕ} (s : Session) (runs lasts : Bool) (at_job : Option 
       slot = slot;
     }) shuts took after closes
     gives_up passed
-flow_with s runs lasts at_job at_owner slot closed_is passed_is unclosed t = record {
-  closed_is = closed_is;
-  inside = t.inside;
-  put = t.put;
-  bounded = t.bounded;
-  sound = t.sound;
-  passed_is = passed_is;
-  unwritten = t.unwritten;
-  unclosed = unclosed;
-}
+flow_with s closed_is passed_is unclosed t = assumption
 
 -- the same where the job writes
-pub written_with : (s : Session) (runs lasts : Bool) (at_job : Option JobNumber)
-    (at_owner : Option (Unit {0})) (slot : Slot (Option (Fault ℕ)) (Unit {0})) {shut shuts : Bool}
+pub written_with : (s : Session) {runs lasts : Bool} {at_job : Option JobNumber}
+    {at_owner : Option (Unit {0})} {slot : Slot (Option (Fault ℕ)) (Unit {0})} {shut shuts : Bool}
     {took accepted : List ℕ} {next after : JobAction}
     {closed closes given_up gives_up : Bool} {wrote : Wrote}
     (t : WriteFlowAs s shut took accepted next closed given_up wrote) → closes ≡ not runs
@@ -189,7 +173,7 @@ pub written_with : (s : Session) (runs lasts : Bool) (at_job : Option JobNumber)
       slot = slot;
     }) shuts took accepted after
     closes gives_up wrote
-written_with s runs lasts at_job at_owner slot t closed_is written_is unclosed = record {
+written_with s t closed_is written_is unclosed = record {
   closed_is = closed_is;
   out = t.out;
   inside = t.inside;
@@ -202,25 +186,21 @@ written_with s runs lasts at_job at_owner slot t closed_is written_is unclosed =
   unclosed = unclosed;
 }
 
--- through the pipe of a session without one nothing went, be its end closed and the slot another
-pub plain_still : (s : Session) (lasts : Bool) (at_job : Option JobNumber)
-    (slot : Slot (Option (Fault ℕ)) (Unit {0})) (left : ℕ) {took accepted : List ℕ} {closed : Bool}
-    {given found written : List ℕ} → PlainFlow s took accepted closed given found written
-    → PlainFlow (record s {
+-- through the pipe of a session without one nothing went, be its end closed and its places others
+pub plain_still : (s : Session) {item left : ℕ} {lasts : Bool} {at_job : Option JobNumber}
+    {result : Slot ℕ (Unit {0})} {slot : Slot (Option (Fault ℕ)) (Unit {0})}
+    {took accepted : List ℕ} {closed : Bool} {given found written : List ℕ}
+    → PlainFlow s took accepted closed given found written
+    → PlainFlow (record {
+      number = s.number;
+      goods = s.goods;
+      item = item;
       pipe = record s.pipe { is_owner_open = lasts; job_seat = at_job };
+      result = result;
       slot = slot;
       left = left;
     }) took accepted closed given found written
-plain_still s lasts at_job slot left t = record {
-  closed_is = t.closed_is;
-  inside = t.inside;
-  unseated = t.unseated;
-  ungot = t.ungot;
-  unfilled = t.unfilled;
-  ungiven = t.ungiven;
-  unfound = t.unfound;
-  unwritten = t.unwritten;
-}
+plain_still s t = assumption
 
 -- what went through its pipe, where its owner's end was closed
 shut_flow : (s : Session) (kind : Kind) (shut : Bool) (took accepted : List ℕ) (next : JobAction)
@@ -228,24 +208,24 @@ shut_flow : (s : Session) (kind : Kind) (shut : Bool) (took accepted : List ℕ)
     → Flows kind s shut took accepted next acts
     → Flows kind (session_after_close s) true took accepted next acts
 shut_flow s Reading shut took accepted next acts t =
-    flow_with s s.pipe.is_job_open false None s.pipe.owner_seat s.slot t.closed_is (stops next
+    flow_with s t.closed_is (stops next
     (room s.pipe) s.pipe.is_job_open (shut || has_given_up acts) (passed_by acts) t.passed_is)
     t.unclosed t
 shut_flow s Streaming shut took accepted next acts t =
-    flow_with s s.pipe.is_job_open false None s.pipe.owner_seat s.slot t.closed_is (stops next
+    flow_with s t.closed_is (stops next
     (room s.pipe) s.pipe.is_job_open (shut || has_given_up acts) (passed_by acts) t.passed_is)
     t.unclosed t
 shut_flow s Writing shut took accepted next acts t =
-    written_with s s.pipe.is_job_open false None s.pipe.owner_seat s.slot t t.closed_is
+    written_with s t t.closed_is
     (stops_writing next t.out s.pipe.items s.pipe.is_job_open shut (has_given_up acts)
     (wrote_by acts) t.written_is) t.unclosed
 shut_flow s (Seeking goal) shut took accepted next acts t = record {
-  plain = plain_still s false None s.slot s.left t.plain;
+  plain = plain_still s t.plain;
   next_is = t.next_is;
   place = t.place;
 }
 shut_flow s Operating shut took accepted next acts t =
-    record { plain = plain_still s false None s.slot s.left t.plain; next_is = t.next_is }
+    record { plain = plain_still s t.plain; next_is = t.next_is }
 shut_flow s _ shut took accepted next acts t = absurd t
 
 -- where the slot is another, what went through the pipe is the same
@@ -253,24 +233,16 @@ pub same_flow : (s : Session) (slot : Slot (Option (Fault ℕ)) (Unit {0})) (kin
     (shut : Bool) (took accepted : List ℕ) (next : JobAction) (acts : List Act)
     → Flows kind s shut took accepted next acts
     → Flows kind (record s { slot = slot }) shut took accepted next acts
-same_flow s slot Reading shut took accepted next acts t = flow_with s s.pipe.is_job_open
-    s.pipe.is_owner_open s.pipe.job_seat s.pipe.owner_seat slot t.closed_is t.passed_is t.unclosed t
-same_flow s slot Streaming shut took accepted next acts t = flow_with s s.pipe.is_job_open
-    s.pipe.is_owner_open s.pipe.job_seat s.pipe.owner_seat slot t.closed_is t.passed_is t.unclosed t
+same_flow s slot Reading shut took accepted next acts t =
+    flow_with s t.closed_is t.passed_is t.unclosed t
+same_flow s slot Streaming shut took accepted next acts t =
+    flow_with s t.closed_is t.passed_is t.unclosed t
 same_flow s slot Writing shut took accepted next acts t =
-    written_with s s.pipe.is_job_open s.pipe.is_owner_open s.pipe.job_seat s.pipe.owner_seat slot t
-    t.closed_is t.written_is t.unclosed
+    written_with s t t.closed_is t.written_is t.unclosed
 same_flow s slot (Seeking goal) shut took accepted next acts t =
-    record {
-      plain = plain_still s s.pipe.is_owner_open s.pipe.job_seat slot s.left t.plain;
-      next_is = t.next_is;
-      place = t.place;
-    }
+    record { plain = plain_still s t.plain; next_is = t.next_is; place = t.place }
 same_flow s slot Operating shut took accepted next acts t =
-    record {
-      plain = plain_still s s.pipe.is_owner_open s.pipe.job_seat slot s.left t.plain;
-      next_is = t.next_is;
-    }
+    record { plain = plain_still s t.plain; next_is = t.next_is }
 same_flow s slot _ shut took accepted next acts t = absurd t
 
 -- who can't go on at the pipe can't where the slot is another
@@ -487,8 +459,7 @@ module _ (s : Session) (capacity : ℕ) (last : Option SeenSession) (shut back d
       accepted acts js true ss
   waits n found t = record {
     lent = lent_with s t.lent t.lent.within;
-    flow = flow_with s s.pipe.is_job_open s.pipe.is_owner_open s.pipe.job_seat (Some tt) s.slot
-        t.flow.closed_is t.flow.passed_is t.flow.unclosed t.flow;
+    flow = flow_with s t.flow.closed_is t.flow.passed_is t.flow.unclosed t.flow;
     result = t.result;
     seats = owner_sits s t.seats
         (nothing_yet n s.pipe.items s.pipe.is_job_open s.pipe.job_seat found);

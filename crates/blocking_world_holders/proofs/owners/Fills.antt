@@ -1,7 +1,7 @@
 -- The session of an owner who writes after it fills the pipe.
 use Rattle.std.proofs.Common.{◌≡◌, ℕ, ◌<◌, ◌≤◌, ◌==◌, List, ◌++◌, length, length-append}
 use Rattle.std.proofs.Common.{append_assoc, Bool, true, false, refl, sym, ap, ◌∙◌, subst, arith}
-use Rattle.std.proofs.Common.{Option, Some, if◌then◌else◌, min, take, eqb-true, length-take}
+use Rattle.std.proofs.Common.{Option, if◌then◌else◌, min, take, eqb-true, length-take}
 use Rattle.std.proofs.lemmas.Bool.Decides.{nat_tests}
 use Rattle.std.proofs.lemmas.List.{take-append-le}
 use Rattle.blocking_world_holders.proofs.Types.{Act, FillShut, Filled, Waits}
@@ -188,8 +188,7 @@ module _ (s : Session) (capacity : ℕ) (last : Option SeenSession) (shut back d
       accepted acts js true ss
   fill_waits bytes found t = record {
     lent = lent_with s t.lent t.lent.within;
-    flow = written_with s s.pipe.is_job_open s.pipe.is_owner_open s.pipe.job_seat (Some tt) s.slot
-        t.flow t.flow.closed_is t.flow.written_is t.flow.unclosed;
+    flow = written_with s t.flow t.flow.closed_is t.flow.written_is t.flow.unclosed;
     result = t.result;
     seats = owner_sits s t.seats (fill_full (length bytes) s found);
   }

@@ -1,6 +1,6 @@
 -- The session of an owner after each act of a job that runs an iterator.
 use Rattle.std.proofs.Common.{◌≡◌, ℕ, ◌≤◌, List, [], ◌∷◌, ◌++◌, length, length-append, append_assoc}
-use Rattle.std.proofs.Common.{Bool, true, false, refl, sym, ap, ◌∙◌, subst, arith, Option, Some}
+use Rattle.std.proofs.Common.{Bool, true, false, refl, sym, ap, ◌∙◌, subst, arith, Option}
 use Rattle.std.proofs.Common.{if◌then◌else◌, ◌||◌, ◌+◌, nat_le, not, take, append-nil}
 use Rattle.std.proofs.lemmas.Bool.{or_left, or_right}
 use Rattle.std.proofs.lemmas.Bool.Decides.{nat_tests}
@@ -99,12 +99,11 @@ module _ (s : Session) (capacity : ℕ) (last : Option SeenSession) (shut back d
       let stopped : shut ≡ true = t.lent.shut_is ∙ ap not closed in
       record {
         lent = t.lent;
-        flow = flow_with s s.pipe.is_job_open s.pipe.is_owner_open s.pipe.job_seat s.pipe.owner_seat
-            s.slot t.flow.closed_is (
-              t.flow.passed_is.0,
-              subst (λ b. GaveAll (b || has_given_up acts) (passed_by acts))
-                  (sym stopped) tt,
-            ) (λ is. absurd (cc)) t.flow;
+        flow = flow_with s t.flow.closed_is (
+          t.flow.passed_is.0,
+          subst (λ b. GaveAll (b || has_given_up acts) (passed_by acts))
+              (sym stopped) tt,
+        ) (λ is. absurd (cc)) t.flow;
         result = t.result;
         seats = nobody_sits s Streaming (true || has_given_up acts) (false || has_given_up acts) js
             ps ss (λ seated. let lasts = (t.seats.reason.job seated).2 in cc) t.seats;
@@ -120,8 +119,7 @@ module _ (s : Session) (capacity : ℕ) (last : Option SeenSession) (shut back d
       let full = no_space (room s.pipe) s.pipe.is_owner_open s.pipe.owner_seat found in
       record {
         lent = lent_with s t.lent t.lent.within;
-        flow = flow_with s s.pipe.is_job_open s.pipe.is_owner_open (Some s.number) s.pipe.owner_seat
-            s.slot t.flow.closed_is t.flow.passed_is t.flow.unclosed t.flow;
+        flow = flow_with s t.flow.closed_is t.flow.passed_is t.flow.unclosed t.flow;
         result = t.result;
         seats = job_sits s t.seats
             (or_left (is_finding (next_but_wake Streaming acts)) (has_given_up acts)

@@ -314,6 +314,7 @@ worked_on (SessionJob.Seek p) acts owner done r does = by (seek_next p.core) ref
     by a is does = seek_goes p acts owner.session owner r a is done does
 worked_on (SessionJob.Operate p) acts owner done r does = by (operation_next p.core) refl does
   where
-    by : (a : OpAction) → operation_next p.core ≡ a → operate_as a p owner ≡ Some done → IsAt acts done
+    by : (a : OpAction) → operation_next p.core ≡ a → operate_as a p owner ≡ Some done
+        → IsAt acts done
     by OpAction.Deliver is does = moved (IsAt acts) _ done does (of_operator.wakes p acts r is)
     by a is does = operate_goes p acts owner.session owner r a is done does

@@ -1,8 +1,8 @@
 -- The session of an owner after each act of its job.
 use Rattle.std.proofs.Common.{◌≡◌, ℕ, ◌<◌, ◌≤◌, ◌==◌, List, [], ◌∷◌, ◌++◌, length, length-append}
 use Rattle.std.proofs.Common.{append_assoc, Bool, true, false, refl, sym, ap, ◌∙◌, subst, arith}
-use Rattle.std.proofs.Common.{Option, Some, None, if◌then◌else◌, inl, inr, ◌||◌, ◌+◌, ◌-◌, nat_le}
-use Rattle.std.proofs.Common.{not, take, is_some, eqb-true, append-nil}
+use Rattle.std.proofs.Common.{Option, None, if◌then◌else◌, inl, inr, ◌||◌, ◌+◌, ◌-◌, nat_le, not}
+use Rattle.std.proofs.Common.{take, is_some, eqb-true, append-nil}
 use Rattle.std.proofs.lemmas.Bool.{or_left, or_right}
 use Rattle.std.proofs.lemmas.Bool.Decides.{nat_tests}
 use Rattle.std.proofs.Math.Seq.{take-length}
@@ -181,26 +181,19 @@ left_flow : (s : Session) (slot : Slot (Option (Fault ℕ)) (Unit {0})) (kind : 
     → Flows kind s shut took accepted next acts
     → Flows kind (record s { slot = slot }) shut took accepted Over (GaveUp waker ∷ acts)
 left_flow s slot Reading shut took accepted next acts waker t =
-    flow_with s s.pipe.is_job_open s.pipe.is_owner_open s.pipe.job_seat s.pipe.owner_seat slot
-    t.closed_is (subst (λ b. GaveAll b (passed_by acts)) (sym (or_right shut true refl)) tt)
+    flow_with s t.closed_is
+    (subst (λ b. GaveAll b (passed_by acts)) (sym (or_right shut true refl)) tt)
     (λ is lasts. refl) t
 left_flow s slot Streaming shut took accepted next acts waker t =
-    flow_with s s.pipe.is_job_open s.pipe.is_owner_open s.pipe.job_seat s.pipe.owner_seat slot
-    t.closed_is (subst (λ b. GaveAll b (passed_by acts)) (sym (or_right shut true refl)) tt)
+    flow_with s t.closed_is
+    (subst (λ b. GaveAll b (passed_by acts)) (sym (or_right shut true refl)) tt)
     (λ is lasts. refl) t
 left_flow s slot Writing shut took accepted next acts waker t =
-    written_with s s.pipe.is_job_open s.pipe.is_owner_open s.pipe.job_seat s.pipe.owner_seat slot t
-    t.closed_is (λ stays. absurd (cc)) (λ is lasts. refl)
+    written_with s t t.closed_is (λ stays. absurd (cc)) (λ is lasts. refl)
 left_flow s slot (Seeking goal) shut took accepted next acts waker t =
-    record {
-      plain = plain_still s s.pipe.is_owner_open s.pipe.job_seat slot s.left t.plain;
-      next_is = tt;
-      place = t.place;
-    }
-left_flow s slot Operating shut took accepted next acts waker t = record {
-  plain = plain_still s s.pipe.is_owner_open s.pipe.job_seat slot s.left t.plain;
-  next_is = tt;
-}
+    record { plain = plain_still s t.plain; next_is = tt; place = t.place }
+left_flow s slot Operating shut took accepted next acts waker t =
+    record { plain = plain_still s t.plain; next_is = tt }
 left_flow s slot _ shut took accepted next acts waker t = absurd t
 
 -- and where it closed its end
@@ -208,12 +201,12 @@ closed_flow : (s : Session) (kind : Kind) (shut : Bool) (took accepted : List �
     (waker : HolderWaker)
     → Flows kind s shut took accepted CloseEnd acts
     → Flows kind (session_after_job_close s) shut took accepted Finish (JobClosed waker ∷ acts)
-closed_flow s Reading shut took accepted acts waker t = flow_with s false s.pipe.is_owner_open
-    s.pipe.job_seat None s.slot refl (refl, t.passed_is.1) (λ is. absurd (cc)) t
-closed_flow s Streaming shut took accepted acts waker t = flow_with s false s.pipe.is_owner_open
-    s.pipe.job_seat None s.slot refl (refl, t.passed_is.1) (λ is. absurd (cc)) t
-closed_flow s Writing shut took accepted acts waker t = written_with s false s.pipe.is_owner_open
-    s.pipe.job_seat None s.slot t refl (refl, t.written_is.1, t.written_is.2) (λ is. absurd (cc))
+closed_flow s Reading shut took accepted acts waker t =
+    flow_with s refl (refl, t.passed_is.1) (λ is. absurd (cc)) t
+closed_flow s Streaming shut took accepted acts waker t =
+    flow_with s refl (refl, t.passed_is.1) (λ is. absurd (cc)) t
+closed_flow s Writing shut took accepted acts waker t =
+    written_with s t refl (refl, t.written_is.1, t.written_is.2) (λ is. absurd (cc))
 closed_flow s (Seeking goal) shut took accepted acts waker t = absurd t.next_is
 closed_flow s Operating shut took accepted acts waker t = absurd t.next_is
 closed_flow s _ shut took accepted acts waker t = absurd t
@@ -229,25 +222,16 @@ finished_flow : (s : Session) (slot : Slot (Option (Fault ℕ)) (Unit {0})) (kin
     → Leaves kind s acts → Flows kind s shut took accepted Finish acts
     → Flows kind (record s { slot = slot }) shut took accepted Over (Finished waker ∷ acts)
 finished_flow s slot Reading shut took accepted acts waker leaves t =
-    flow_with s s.pipe.is_job_open s.pipe.is_owner_open s.pipe.job_seat s.pipe.owner_seat slot
-    t.closed_is t.passed_is.1 (λ is lasts. absurd (let closed = t.passed_is.0 in cc)) t
+    flow_with s t.closed_is t.passed_is.1 (λ is lasts. absurd (let closed = t.passed_is.0 in cc)) t
 finished_flow s slot Streaming shut took accepted acts waker leaves t =
-    flow_with s s.pipe.is_job_open s.pipe.is_owner_open s.pipe.job_seat s.pipe.owner_seat slot
-    t.closed_is t.passed_is.1 (λ is lasts. absurd (let closed = t.passed_is.0 in cc)) t
+    flow_with s t.closed_is t.passed_is.1 (λ is lasts. absurd (let closed = t.passed_is.0 in cc)) t
 finished_flow s slot Writing shut took accepted acts waker leaves t =
-    written_with s s.pipe.is_job_open s.pipe.is_owner_open s.pipe.job_seat
-    s.pipe.owner_seat slot t t.closed_is (λ stays. (t.written_is.1, t.written_is.2))
+    written_with s t t.closed_is (λ stays. (t.written_is.1, t.written_is.2))
     (λ is lasts. absurd (let closed = t.written_is.0 in cc))
 finished_flow s slot (Seeking goal) shut took accepted acts waker leaves t =
-    record {
-      plain = plain_still s s.pipe.is_owner_open s.pipe.job_seat slot s.left t.plain;
-      next_is = tt;
-      place = λ is. leaves;
-    }
-finished_flow s slot Operating shut took accepted acts waker leaves t = record {
-  plain = plain_still s s.pipe.is_owner_open s.pipe.job_seat slot s.left t.plain;
-  next_is = tt;
-}
+    record { plain = plain_still s t.plain; next_is = tt; place = λ is. leaves }
+finished_flow s slot Operating shut took accepted acts waker leaves t =
+    record { plain = plain_still s t.plain; next_is = tt }
 finished_flow s slot _ shut took accepted acts waker leaves t = absurd t
 
 module _ (s : Session) (kind : Kind) (capacity : ℕ) (last : Option SeenSession)
@@ -404,12 +388,11 @@ module _ (s : Session) (capacity : ℕ) (last : Option SeenSession) (shut back d
       let stopped : shut ≡ true = t.lent.shut_is ∙ ap not closed in
       record {
         lent = t.lent;
-        flow = flow_with s s.pipe.is_job_open s.pipe.is_owner_open s.pipe.job_seat s.pipe.owner_seat
-            s.slot t.flow.closed_is (
-              t.flow.passed_is.0,
-              subst (λ b. GaveAll (b || has_given_up acts) (passed_by acts))
-                  (sym stopped) tt,
-            ) (λ is. absurd (cc)) t.flow;
+        flow = flow_with s t.flow.closed_is (
+          t.flow.passed_is.0,
+          subst (λ b. GaveAll (b || has_given_up acts) (passed_by acts))
+              (sym stopped) tt,
+        ) (λ is. absurd (cc)) t.flow;
         result = t.result;
         seats = nobody_sits s Reading (true || has_given_up acts) (false || has_given_up acts) js ps
             ss (λ seated. let lasts = (t.seats.reason.job seated).2 in cc) t.seats;
@@ -425,8 +408,7 @@ module _ (s : Session) (capacity : ℕ) (last : Option SeenSession) (shut back d
       let full = no_room (room s.pipe) s.pipe.is_owner_open found in
       record {
         lent = lent_with s t.lent t.lent.within;
-        flow = flow_with s s.pipe.is_job_open s.pipe.is_owner_open (Some s.number) s.pipe.owner_seat
-            s.slot t.flow.closed_is t.flow.passed_is t.flow.unclosed t.flow;
+        flow = flow_with s t.flow.closed_is t.flow.passed_is t.flow.unclosed t.flow;
         result = t.result;
         seats = job_sits s t.seats
             (or_left (is_finding (next_but_wake Reading acts)) (has_given_up acts)
@@ -627,12 +609,11 @@ module _ (s : Session) (capacity : ℕ) (last : Option SeenSession) (shut back d
       let stopped : shut ≡ true = t.lent.shut_is ∙ ap not closed in
       record {
         lent = t.lent;
-        flow = flow_with s s.pipe.is_job_open s.pipe.is_owner_open s.pipe.job_seat s.pipe.owner_seat
-            s.slot t.flow.closed_is (
-              t.flow.passed_is.0,
-              subst (λ b. GaveAll (b || has_given_up acts) (passed_by acts))
-                  (sym stopped) tt,
-            ) (λ is. absurd (cc)) t.flow;
+        flow = flow_with s t.flow.closed_is (
+          t.flow.passed_is.0,
+          subst (λ b. GaveAll (b || has_given_up acts) (passed_by acts))
+              (sym stopped) tt,
+        ) (λ is. absurd (cc)) t.flow;
         result = t.result;
         seats = unseated s Reading (false || has_given_up acts) (false || has_given_up acts) js ps
             ss none t.seats;

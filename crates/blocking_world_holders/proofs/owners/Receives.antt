@@ -1,7 +1,7 @@
 -- The session of an owner that takes items after each act of the owner itself.
 use Rattle.std.proofs.Common.{◌≡◌, ℕ, ◌≤◌, List, [], ◌∷◌, ◌++◌, length, length-append, append_assoc}
-use Rattle.std.proofs.Common.{Bool, true, false, refl, sym, ap, ◌∙◌, arith, Option, Some, ◌||◌, ◌-◌}
-use Rattle.std.proofs.Common.{drop, length-drop}
+use Rattle.std.proofs.Common.{Bool, true, false, refl, sym, ap, ◌∙◌, arith, Option, ◌||◌, ◌-◌, drop}
+use Rattle.std.proofs.Common.{length-drop}
 use Rattle.blocking_world_holders.proofs.Types.{Act}
 use Rattle.blocking_world_holders.proofs.Words.{room, Closed, Served, Waiting, receive, JobNumber}
 use Rattle.blocking_world_holders.proofs.Words.{Streaming, has_given_up, next_but_wake, SeenSession}
@@ -78,8 +78,7 @@ module _ (s : Session) (capacity : ℕ) (last : Option SeenSession) (shut back d
       accepted acts js true ss
   waits_for_item found t = record {
     lent = lent_with s t.lent t.lent.within;
-    flow = flow_with s s.pipe.is_job_open s.pipe.is_owner_open s.pipe.job_seat (Some tt) s.slot
-        t.flow.closed_is t.flow.passed_is t.flow.unclosed t.flow;
+    flow = flow_with s t.flow.closed_is t.flow.passed_is t.flow.unclosed t.flow;
     result = t.result;
     seats = owner_sits s t.seats
         (no_item_yet s.pipe.items s.pipe.is_job_open s.pipe.job_seat found);

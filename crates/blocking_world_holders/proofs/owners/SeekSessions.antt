@@ -89,22 +89,10 @@ module _ (s : Session) (goal : Position) (capacity : ℕ) (last : Option SeenSes
       (fault (Seeking goal) acts) t.result).unfinished in
       record {
         lent = lent_with s t.lent t.lent.within;
-        flow = record {
-          plain = plain_still s s.pipe.is_owner_open s.pipe.job_seat s.slot place t.flow.plain;
-          next_is = tt;
-          place = λ is. absurd (cc);
-        };
+        flow =
+            record { plain = plain_still s t.flow.plain; next_is = tt; place = λ is. absurd (cc) };
         result = t.result;
-        seats = record {
-          job = t.seats.job;
-          owner = t.seats.owner;
-          slot = t.seats.slot;
-          reason = record {
-            job = t.seats.reason.job;
-            owner = t.seats.reason.owner;
-            slot = t.seats.reason.slot;
-          };
-        };
+        seats = assumption;
       }
 
   -- it puts its result

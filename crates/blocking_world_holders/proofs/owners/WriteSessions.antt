@@ -99,8 +99,7 @@ module _ (s : Session) (capacity : ℕ) (last : Option SeenSession) (shut back d
       let none = no_piece 65536 s.pipe.items s.pipe.is_owner_open found in
       record {
         lent = lent_with s t.lent t.lent.within;
-        flow = written_with s s.pipe.is_job_open s.pipe.is_owner_open (Some s.number)
-            s.pipe.owner_seat s.slot t.flow t.flow.closed_is t.flow.written_is t.flow.unclosed;
+        flow = written_with s t.flow t.flow.closed_is t.flow.written_is t.flow.unclosed;
         result = t.result;
         seats = job_sits s t.seats
             (or_left (is_finding (next_but_wake Writing acts)) (has_given_up acts)
@@ -118,12 +117,11 @@ module _ (s : Session) (capacity : ℕ) (last : Option SeenSession) (shut back d
       let closed = none.1 in
       record {
         lent = t.lent;
-        flow = written_with s s.pipe.is_job_open s.pipe.is_owner_open
-            s.pipe.job_seat s.pipe.owner_seat s.slot t.flow t.flow.closed_is (
-              p.0,
-              p.1,
-              λ sound. (none.0, t.lent.shut_is ∙ ap not closed),
-            ) (λ is. absurd (cc));
+        flow = written_with s t.flow t.flow.closed_is (
+          p.0,
+          p.1,
+          λ sound. (none.0, t.lent.shut_is ∙ ap not closed),
+        ) (λ is. absurd (cc));
         result = t.result;
         seats = nobody_sits s Writing (true || has_given_up acts) (false || has_given_up acts) js ps
             ss (λ seated. let lasts = (t.seats.reason.job seated).2 in cc) t.seats;
