@@ -1,3 +1,4 @@
+pub mod Machines
 pub mod ReadJobs
 pub mod WriteJobs
 pub mod ItemJobs

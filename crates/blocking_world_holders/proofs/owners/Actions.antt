@@ -361,7 +361,7 @@ read_some owner cut n p t of r among asks over = by_next (read_next p.core) refl
         → is_some (read_in a owner.session p owner) ≡ true
     at_last a is other goes here =
         let m = meets owner cut n Reading (read_action_as p.piece a) t of among
-        (sym r.next ∙ ap (read_action_as p.piece) (read_job.awake p a is other).next_is) goes in
+        (read_job.does p (acts_of n cut) r is other).table goes in
         subst (λ o. is_some (read_in a o p owner) ≡ true) (sym m.here)
         (ap (λ w. is_some (worked_by SessionJob.Read w owner)) (through_here OfBytes m.session.goods
         (work_by a p m.session) m.goods) ∙ here m.session m.flow)
@@ -394,8 +394,8 @@ write_some owner cut n p t of r among asks over = by_next (write_next p.core) re
         → is_some (worked_by SessionJob.Write (writer_works a p s) owner) ≡ true)
         → is_some (write_in a owner.session p owner) ≡ true
     at_last a is other goes here =
-        let m = meets owner cut n Writing (write_action_as p.piece a) t of among (sym r.next
-        ∙ ap (write_action_as p.piece) (write_job.awake p a is other).next_is) goes in
+        let m = meets owner cut n Writing (write_action_as p.piece a) t of among
+        (write_job.does p (acts_of n cut) r is other).table goes in
         subst (λ o. is_some (write_in a o p owner) ≡ true) (sym m.here)
         (ap (λ w. is_some (worked_by SessionJob.Write w owner)) (through_here OfBytes
         m.session.goods (writer_works a p m.session) m.goods) ∙ here m.session m.flow)
@@ -427,8 +427,8 @@ stream_some owner cut n p t of r among asks over = by_next (item_next p.core) re
         → ((s : Session) → is_some (worked_by SessionJob.Items (streamer_works a p s) owner) ≡ true)
         → is_some (stream_in a owner.session p owner) ≡ true
     at_last a is other goes here =
-        let m = meets owner cut n Streaming (item_action_as p.item a) t of among (sym r.next
-        ∙ ap (item_action_as p.item) (stream_job.awake p a is other).next_is) goes in
+        let m = meets owner cut n Streaming (item_action_as p.item a) t of among
+        (stream_job.does p (acts_of n cut) r is other).table goes in
         subst (λ o. is_some (stream_in a o p owner) ≡ true) (sym m.here)
         (ap (λ w. is_some (worked_by SessionJob.Items w owner)) (through_here OfItems
         m.session.goods (streamer_works a p m.session) m.goods) ∙ here m.session)
@@ -454,8 +454,8 @@ seek_some owner cut n p t of r among asks over = by_next (seek_next p.core) refl
     by_next SeekAction.Deliver is asks over = refl
     by_next SeekAction.Finish is asks over =
         let m = meets
-        owner cut n (Seeking p.goal) (seek_action_as SeekAction.Finish) t of among (sym r.next
-        ∙ ap seek_action_as (seek_job.awake p SeekAction.Finish is (λ e. cc)).next_is) refl in
+        owner cut n (Seeking p.goal) (seek_action_as SeekAction.Finish) t of among
+        (seek_job.does p (acts_of n cut) r is (λ e. cc)).table refl in
         subst (λ o. is_some (seek_in SeekAction.Finish o p owner) ≡ true) (sym m.here) refl
     by_next _ is asks over = absurd (cc)
 
@@ -473,7 +473,7 @@ operate_some owner cut n p t of r among asks over = by_next (operation_next p.co
         ≡ true) → is_some (operate_in a owner.session p owner) ≡ true
     at_last a is other goes here =
         let m = meets owner cut n Operating (operation_action_as a) t of among
-        (sym r.next ∙ ap operation_action_as (operation_job.awake p a is other).next_is) goes in
+        (operation_job.does p (acts_of n cut) r is other).table goes in
         subst (λ o. is_some (operate_in a o p owner) ≡ true) (sym m.here) (here m.session)
 
     by_next : (a : OpAction) → operation_next p.core ≡ a → is_asking (operation_action_as a) ≡ false

@@ -1,7 +1,7 @@
 -- The session of an owner after each act of the owner itself.
 use Rattle.std.proofs.Common.{◌≡◌, ℕ, ◌<◌, ◌≤◌, List, [], ◌∷◌, ◌++◌, length, length-append}
 use Rattle.std.proofs.Common.{append_assoc, Bool, true, false, refl, sym, ap, ◌∙◌, subst, arith}
-use Rattle.std.proofs.Common.{Option, Some, None, inl, ◌||◌, ◌⊎◌, not, ◌-◌, min, max, take, drop}
+use Rattle.std.proofs.Common.{Option, Some, inl, ◌||◌, ◌⊎◌, not, ◌-◌, min, max, take, drop}
 use Rattle.std.proofs.Common.{take-append-drop, length-drop, length-take}
 use Rattle.std.proofs.lemmas.List.{take_min}
 use Rattle.blocking_world_holders.proofs.Types.{Fault, Act}
@@ -12,10 +12,11 @@ use Rattle.blocking_world_holders.proofs.Words.{Kind, OfferBytes, Operating, Ove
 use Rattle.blocking_world_holders.proofs.Words.{Reading, Seeking, SendItem, Streaming, Writing}
 use Rattle.blocking_world_holders.proofs.Words.{fault, has_finished, has_given_up, is_over}
 use Rattle.blocking_world_holders.proofs.Words.{next_but_wake, SeenSession, FlowAs, Flows, IsDone}
-use Rattle.blocking_world_holders.proofs.Words.{IsDrained, IsOwnerStuckIn, IsStuckIn, Passed}
-use Rattle.blocking_world_holders.proofs.Words.{PassedAs, PlainFlow, SessionAs, SlotAs, WriteFlowAs}
-use Rattle.blocking_world_holders.proofs.Words.{WrittenAs, Wrote, is_piped_kind, passed_by}
-use Rattle.blocking_world_holders.proofs.Words.{wrote_by, Session, goods_of, new_session}
+use Rattle.blocking_world_holders.proofs.Words.{IsDrained, IsOwnerStuckIn, IsStuckIn, LentAs}
+use Rattle.blocking_world_holders.proofs.Words.{Passed, PassedAs, PlainFlow, SeatsAs, SessionAs}
+use Rattle.blocking_world_holders.proofs.Words.{SlotAs, WriteFlowAs, WrittenAs, Wrote}
+use Rattle.blocking_world_holders.proofs.Words.{is_piped_kind, passed_by, first_action, wrote_by}
+use Rattle.blocking_world_holders.proofs.Words.{OfNothing, Session, goods_of, new_session}
 use Rattle.blocking_world_holders.proofs.Words.{session_after_close, session_after_drain}
 use Rattle.blocking_world_holders.proofs.Words.{session_after_look}
 
@@ -110,10 +111,33 @@ stops_writing _ out items lasts shut given_up w p = absurd p
 
 -- ---- what depends on the kind of the session
 
+-- what passes through the pipe of a session, and which it is, whoever sits there, whatever stands
+-- in its places, and with these items inside, of which there are no more than there may be
+pub lent_with : (s : Session) {item left : ℕ} {items : List ℕ} {runs : Bool}
+    {at_job : Option JobNumber} {at_owner : Option (Unit {0})} {result : Slot ℕ (Unit {0})}
+    {slot : Slot (Option (Fault ℕ)) (Unit {0})} {kind : Kind} {capacity : ℕ}
+    {last : Option SeenSession} {shut : Bool} → LentAs s kind capacity last shut
+    → length items ≤ capacity
+    → LentAs (record {
+      number = s.number;
+      goods = s.goods;
+      item = item;
+      pipe = record s.pipe {
+        items = items;
+        is_job_open = runs;
+        job_seat = at_job;
+        owner_seat = at_owner;
+      };
+      result = result;
+      slot = slot;
+      left = left;
+    }) kind capacity last shut
+lent_with s t within = assumption
+
 -- what passed through a pipe has passed there whoever sits at it, whatever end is closed, and
 -- whatever stands in the slot
-pub flow_with : {hand : ℕ} (s : Session) (runs lasts : Bool) (at_job : Option JobNumber)
-    (at_owner : Option (Unit {0})) (slot : Slot (Option (Fault ℕ)) (Unit {0})) {shut shuts : Bool}
+pub flow_with : {hand : ℕ} (s : Session) {runs lasts : Bool} {at_job : Option JobNumber}
+    {at_owner : Option (Unit {0})} {slot : Slot (Option (Fault ℕ)) (Unit {0})} {shut shuts : Bool}
     {took : List ℕ} {next after : JobAction} {closed closes given_up gives_up : Bool}
     {passed : Passed}
     → closes ≡ not runs → PassedAs after (room s.pipe) runs (shuts || gives_up) passed
@@ -129,20 +153,11 @@ pub flow_with : {hand : ℕ} (s : Session) (runs lasts : Bool) (at_job : Option 
       slot = slot;
     }) shuts took after closes
     gives_up passed
-flow_with s runs lasts at_job at_owner slot closed_is passed_is unclosed t = record {
-  closed_is = closed_is;
-  inside = t.inside;
-  put = t.put;
-  bounded = t.bounded;
-  sound = t.sound;
-  passed_is = passed_is;
-  unwritten = t.unwritten;
-  unclosed = unclosed;
-}
+flow_with s closed_is passed_is unclosed t = assumption
 
 -- the same where the job writes
-pub written_with : (s : Session) (runs lasts : Bool) (at_job : Option JobNumber)
-    (at_owner : Option (Unit {0})) (slot : Slot (Option (Fault ℕ)) (Unit {0})) {shut shuts : Bool}
+pub written_with : (s : Session) {runs lasts : Bool} {at_job : Option JobNumber}
+    {at_owner : Option (Unit {0})} {slot : Slot (Option (Fault ℕ)) (Unit {0})} {shut shuts : Bool}
     {took accepted : List ℕ} {next after : JobAction}
     {closed closes given_up gives_up : Bool} {wrote : Wrote}
     (t : WriteFlowAs s shut took accepted next closed given_up wrote) → closes ≡ not runs
@@ -158,7 +173,7 @@ pub written_with : (s : Session) (runs lasts : Bool) (at_job : Option JobNumber)
       slot = slot;
     }) shuts took accepted after
     closes gives_up wrote
-written_with s runs lasts at_job at_owner slot t closed_is written_is unclosed = record {
+written_with s t closed_is written_is unclosed = record {
   closed_is = closed_is;
   out = t.out;
   inside = t.inside;
@@ -171,25 +186,21 @@ written_with s runs lasts at_job at_owner slot t closed_is written_is unclosed =
   unclosed = unclosed;
 }
 
--- through the pipe of a session without one nothing went, be its end closed and the slot another
-pub plain_still : (s : Session) (lasts : Bool) (at_job : Option JobNumber)
-    (slot : Slot (Option (Fault ℕ)) (Unit {0})) (left : ℕ) {took accepted : List ℕ} {closed : Bool}
-    {given found written : List ℕ} → PlainFlow s took accepted closed given found written
-    → PlainFlow (record s {
+-- through the pipe of a session without one nothing went, be its end closed and its places others
+pub plain_still : (s : Session) {item left : ℕ} {lasts : Bool} {at_job : Option JobNumber}
+    {result : Slot ℕ (Unit {0})} {slot : Slot (Option (Fault ℕ)) (Unit {0})}
+    {took accepted : List ℕ} {closed : Bool} {given found written : List ℕ}
+    → PlainFlow s took accepted closed given found written
+    → PlainFlow (record {
+      number = s.number;
+      goods = s.goods;
+      item = item;
       pipe = record s.pipe { is_owner_open = lasts; job_seat = at_job };
+      result = result;
       slot = slot;
       left = left;
     }) took accepted closed given found written
-plain_still s lasts at_job slot left t = record {
-  closed_is = t.closed_is;
-  inside = t.inside;
-  unseated = t.unseated;
-  ungot = t.ungot;
-  unfilled = t.unfilled;
-  ungiven = t.ungiven;
-  unfound = t.unfound;
-  unwritten = t.unwritten;
-}
+plain_still s t = assumption
 
 -- what went through its pipe, where its owner's end was closed
 shut_flow : (s : Session) (kind : Kind) (shut : Bool) (took accepted : List ℕ) (next : JobAction)
@@ -197,24 +208,24 @@ shut_flow : (s : Session) (kind : Kind) (shut : Bool) (took accepted : List ℕ)
     → Flows kind s shut took accepted next acts
     → Flows kind (session_after_close s) true took accepted next acts
 shut_flow s Reading shut took accepted next acts t =
-    flow_with s s.pipe.is_job_open false None s.pipe.owner_seat s.slot t.closed_is (stops next
+    flow_with s t.closed_is (stops next
     (room s.pipe) s.pipe.is_job_open (shut || has_given_up acts) (passed_by acts) t.passed_is)
     t.unclosed t
 shut_flow s Streaming shut took accepted next acts t =
-    flow_with s s.pipe.is_job_open false None s.pipe.owner_seat s.slot t.closed_is (stops next
+    flow_with s t.closed_is (stops next
     (room s.pipe) s.pipe.is_job_open (shut || has_given_up acts) (passed_by acts) t.passed_is)
     t.unclosed t
 shut_flow s Writing shut took accepted next acts t =
-    written_with s s.pipe.is_job_open false None s.pipe.owner_seat s.slot t t.closed_is
+    written_with s t t.closed_is
     (stops_writing next t.out s.pipe.items s.pipe.is_job_open shut (has_given_up acts)
     (wrote_by acts) t.written_is) t.unclosed
 shut_flow s (Seeking goal) shut took accepted next acts t = record {
-  plain = plain_still s false None s.slot s.left t.plain;
+  plain = plain_still s t.plain;
   next_is = t.next_is;
   place = t.place;
 }
 shut_flow s Operating shut took accepted next acts t =
-    record { plain = plain_still s false None s.slot s.left t.plain; next_is = t.next_is }
+    record { plain = plain_still s t.plain; next_is = t.next_is }
 shut_flow s _ shut took accepted next acts t = absurd t
 
 -- where the slot is another, what went through the pipe is the same
@@ -222,24 +233,16 @@ pub same_flow : (s : Session) (slot : Slot (Option (Fault ℕ)) (Unit {0})) (kin
     (shut : Bool) (took accepted : List ℕ) (next : JobAction) (acts : List Act)
     → Flows kind s shut took accepted next acts
     → Flows kind (record s { slot = slot }) shut took accepted next acts
-same_flow s slot Reading shut took accepted next acts t = flow_with s s.pipe.is_job_open
-    s.pipe.is_owner_open s.pipe.job_seat s.pipe.owner_seat slot t.closed_is t.passed_is t.unclosed t
-same_flow s slot Streaming shut took accepted next acts t = flow_with s s.pipe.is_job_open
-    s.pipe.is_owner_open s.pipe.job_seat s.pipe.owner_seat slot t.closed_is t.passed_is t.unclosed t
+same_flow s slot Reading shut took accepted next acts t =
+    flow_with s t.closed_is t.passed_is t.unclosed t
+same_flow s slot Streaming shut took accepted next acts t =
+    flow_with s t.closed_is t.passed_is t.unclosed t
 same_flow s slot Writing shut took accepted next acts t =
-    written_with s s.pipe.is_job_open s.pipe.is_owner_open s.pipe.job_seat s.pipe.owner_seat slot t
-    t.closed_is t.written_is t.unclosed
+    written_with s t t.closed_is t.written_is t.unclosed
 same_flow s slot (Seeking goal) shut took accepted next acts t =
-    record {
-      plain = plain_still s s.pipe.is_owner_open s.pipe.job_seat slot s.left t.plain;
-      next_is = t.next_is;
-      place = t.place;
-    }
+    record { plain = plain_still s t.plain; next_is = t.next_is; place = t.place }
 same_flow s slot Operating shut took accepted next acts t =
-    record {
-      plain = plain_still s s.pipe.is_owner_open s.pipe.job_seat slot s.left t.plain;
-      next_is = t.next_is;
-    }
+    record { plain = plain_still s t.plain; next_is = t.next_is }
 same_flow s slot _ shut took accepted next acts t = absurd t
 
 -- who can't go on at the pipe can't where the slot is another
@@ -254,6 +257,50 @@ pub same_owner_stuck : (s : Session) (slot : Slot (Option (Fault ℕ)) (Unit {0}
 same_owner_stuck s slot Writing e = e
 same_owner_stuck s slot Reading e = e
 same_owner_stuck s slot _ e = e
+
+-- or somebody else sits there
+seats_stuck : (s : Session) (at_job : Option JobNumber) (at_owner : Option (Unit {0})) (kind : Kind)
+    → (IsStuckIn kind s → IsStuckIn kind
+    (record s { pipe = record s.pipe { job_seat = at_job; owner_seat = at_owner } }))
+    × (IsOwnerStuckIn kind s → IsOwnerStuckIn kind
+    (record s { pipe = record s.pipe { job_seat = at_job; owner_seat = at_owner } }))
+seats_stuck s at_job at_owner Writing = (λ e. e, λ e. e)
+seats_stuck s at_job at_owner Reading = (λ e. e, λ e. e)
+seats_stuck s at_job at_owner _ = (λ e. e, λ e. e)
+
+-- so who can't go on at the pipe may be seated there: the owner, or the job
+pub owner_sits : (s : Session) {kind : Kind} {waits js ps ss : Bool} → SeatsAs s kind waits js ps ss
+    → IsOwnerStuckIn kind s × (s.pipe.is_job_open ≡ true)
+    → SeatsAs (record s { pipe = record s.pipe { owner_seat = Some tt } }) kind waits js true ss
+owner_sits s {kind} t stuck =
+    let still = seats_stuck s s.pipe.job_seat (Some tt) kind in
+    record {
+      job = t.job;
+      owner = refl;
+      slot = t.slot;
+      reason = record {
+        job = λ seated. (let r = t.reason.job seated in (r.0, still.0 r.1, r.2));
+        owner = λ seated. (still.1 stuck.0, stuck.1);
+        slot = t.reason.slot;
+      };
+    }
+
+pub job_sits : (s : Session) {kind : Kind} {waits stays js ps ss : Bool}
+    → SeatsAs s kind waits js ps ss → stays ≡ true
+    → IsStuckIn kind s × (s.pipe.is_owner_open ≡ true)
+    → SeatsAs (record s { pipe = record s.pipe { job_seat = Some s.number } }) kind stays true ps ss
+job_sits s {kind} t waits stuck =
+    let still = seats_stuck s (Some s.number) s.pipe.owner_seat kind in
+    record {
+      job = refl;
+      owner = t.owner;
+      slot = t.slot;
+      reason = record {
+        job = λ seated. (waits, still.0 stuck.0, stuck.1);
+        owner = λ seated. (let r = t.reason.owner seated in (still.1 r.0, r.1));
+        slot = t.reason.slot;
+      };
+    }
 
 -- an owner that can't go on still can't where its end is closed
 shut_stuck : (s : Session) (kind : Kind) → IsOwnerStuckIn kind s
@@ -304,14 +351,7 @@ module _ (s : Session) (kind : Kind) (capacity : ℕ) (last : Option SeenSession
       t.result.slot in
       let emptied : Slot (Option (Fault ℕ)) (Unit {0}) = record s.slot { content = Empty } in
       record {
-        lent = record {
-          begun = t.lent.begun;
-          goods = t.lent.goods;
-          some = t.lent.some;
-          holds = t.lent.holds;
-          within = t.lent.within;
-          shut_is = t.lent.shut_is;
-        };
+        lent = lent_with s t.lent t.lent.within;
         flow = same_flow s emptied kind shut took accepted (next_but_wake kind acts) acts t.flow;
         result = record {
           slot = (slot.0, slot.1);
@@ -341,14 +381,7 @@ module _ (s : Session) (kind : Kind) (capacity : ℕ) (last : Option SeenSession
   waits_for_it found closed t =
       let sat : Slot (Option (Fault ℕ)) (Unit {0}) = record s.slot { seat = Some tt } in
       record {
-        lent = record {
-          begun = t.lent.begun;
-          goods = t.lent.goods;
-          some = t.lent.some;
-          holds = t.lent.holds;
-          within = t.lent.within;
-          shut_is = t.lent.shut_is;
-        };
+        lent = lent_with s t.lent t.lent.within;
         flow = same_flow s sat kind shut took accepted (next_but_wake kind acts) acts t.flow;
         result = t.result;
         seats = record {
@@ -382,15 +415,7 @@ module _ (s : Session) (capacity : ℕ) (last : Option SeenSession) (shut back d
       let shorter : length (drop (length got.0) s.pipe.items) ≤ length s.pipe.items =
       simp length-drop (omega arith) in
       record {
-        lent = record {
-          begun = t.lent.begun;
-          goods = t.lent.goods;
-          some = t.lent.some;
-          holds =
-              t.lent.holds;
-          within = omega (arith, shorter, within);
-          shut_is = t.lent.shut_is;
-        };
+        lent = lent_with s t.lent (omega (arith, shorter, within));
         flow = record {
           closed_is = t.flow.closed_is;
           inside = t.flow.inside ∙ ap (λ l. took ++ l) (sym (rejoined n s.pipe.items got.0 f.0))
@@ -433,35 +458,11 @@ module _ (s : Session) (capacity : ℕ) (last : Option SeenSession) (shut back d
       → SessionAs (session_after_drain Waiting s) Reading capacity last shut back dropped took
       accepted acts js true ss
   waits n found t = record {
-    lent = record {
-      begun = t.lent.begun;
-      goods = t.lent.goods;
-      some = t.lent.some;
-      holds = t.lent.holds;
-      within = t.lent.within;
-      shut_is = t.lent.shut_is;
-    };
-    flow = record {
-      closed_is = t.flow.closed_is;
-      inside = t.flow.inside;
-      put = t.flow.put;
-      bounded = t.flow.bounded;
-      sound = t.flow.sound;
-      passed_is = t.flow.passed_is;
-      unclosed = t.flow.unclosed;
-      unwritten = t.flow.unwritten;
-    };
+    lent = lent_with s t.lent t.lent.within;
+    flow = flow_with s t.flow.closed_is t.flow.passed_is t.flow.unclosed t.flow;
     result = t.result;
-    seats = record {
-      job = t.seats.job;
-      owner = refl;
-      slot = t.seats.slot;
-      reason = record {
-        job = t.seats.reason.job;
-        owner = λ seated. nothing_yet n s.pipe.items s.pipe.is_job_open s.pipe.job_seat found;
-        slot = t.seats.reason.slot;
-      };
-    };
+    seats = owner_sits s t.seats
+        (nothing_yet n s.pipe.items s.pipe.is_job_open s.pipe.job_seat found);
   }
 
 -- ---- a session that begins
@@ -485,12 +486,70 @@ lends s shut got accepted next acts (Seeking goal) flow = tt
 lends s shut got accepted next acts Operating flow = tt
 lends s shut got accepted next acts _ flow = absurd flow
 
+-- nothing went through the pipe of a new session, nor through that of one without a pipe
+new_plain : (number : JobNumber) (capacity : ℕ)
+    → PlainFlow (new_session number OfNothing capacity) [] [] false [] [] []
+new_plain number capacity = record {
+  closed_is = refl;
+  inside = refl;
+  unseated = refl;
+  ungot = refl;
+  unfilled = refl;
+  ungiven = refl;
+  unfound = refl;
+  unwritten = refl;
+}
+
+new_flow : (number : JobNumber) (kind : Kind) (capacity : ℕ) → IsLending kind
+    → Flows kind (new_session number (goods_of kind) capacity) false [] [] (first_action kind) []
+new_flow number Reading capacity lending = record {
+  closed_is = refl;
+  inside = refl;
+  put = ([], refl);
+  bounded = omega arith;
+  sound = λ hand. refl;
+  passed_is = (refl, (refl, refl));
+  unclosed = λ is. absurd (cc);
+  unwritten = refl;
+}
+new_flow number Streaming capacity lending = record {
+  closed_is = refl;
+  inside = refl;
+  put = ([], refl);
+  bounded = omega arith;
+  sound = λ hand. refl;
+  passed_is = (refl, (refl, refl));
+  unclosed = λ is. absurd (cc);
+  unwritten = refl;
+}
+new_flow number Writing capacity lending = record {
+  closed_is = refl;
+  out = [];
+  inside = refl;
+  removed = refl;
+  begun = ([], refl);
+  written_is = (refl, refl);
+  sound = λ none. refl;
+  ungot = refl;
+  ungiven = refl;
+  unclosed = λ is. absurd (cc);
+}
+new_flow number (Seeking goal) capacity lending =
+    record { plain = new_plain number capacity; next_is = tt; place = λ is. absurd (cc) }
+new_flow number Operating capacity lending =
+    record { plain = new_plain number capacity; next_is = tt }
+new_flow number _ capacity lending = absurd lending
+
+-- no job is over as it begins
+not_over : (kind : Kind) → false ≡ is_over (first_action kind)
+not_over kind = grind arith
+
 pub begins : (number : JobNumber) (kind : Kind) (capacity : ℕ) (dropped : Bool) → IsLending kind
     → 0 < capacity
     → SessionAs (new_session number (goods_of kind) capacity) kind capacity
     (Some (record { serial = number.serial; kind = kind })) false false dropped [] [] [] false
     false false
-begins number Reading capacity dropped lending some = record {
+begins number kind capacity dropped lending some = record {
   lent = record {
     begun = refl;
     goods = refl;
@@ -499,17 +558,8 @@ begins number Reading capacity dropped lending some = record {
     within = omega arith;
     shut_is = refl;
   };
-  flow = record {
-    closed_is = refl;
-    inside = refl;
-    put = ([], refl);
-    bounded = omega arith;
-    sound = λ hand. refl;
-    passed_is = (refl, (refl, refl));
-    unclosed = λ is. absurd (cc);
-    unwritten = refl;
-  };
-  result = record { slot = (refl, refl); over_is = refl; let_go = λ is. absurd (cc) };
+  flow = new_flow number kind capacity lending;
+  result = record { slot = (refl, refl); over_is = not_over kind; let_go = λ is. absurd (cc) };
   seats = record {
     job = refl;
     owner = refl;
@@ -521,137 +571,3 @@ begins number Reading capacity dropped lending some = record {
     };
   };
 }
-begins number Streaming capacity dropped lending some = record {
-  lent = record {
-    begun = refl;
-    goods = refl;
-    some = some;
-    holds = refl;
-    within = omega arith;
-    shut_is = refl;
-  };
-  flow = record {
-    closed_is = refl;
-    inside = refl;
-    put = ([], refl);
-    bounded = omega arith;
-    sound = λ hand. refl;
-    passed_is = (refl, (refl, refl));
-    unclosed = λ is. absurd (cc);
-    unwritten = refl;
-  };
-  result = record { slot = (refl, refl); over_is = refl; let_go = λ is. absurd (cc) };
-  seats = record {
-    job = refl;
-    owner = refl;
-    slot = refl;
-    reason = record {
-      job = λ seated. absurd (cc);
-      owner = λ seated. absurd (cc);
-      slot = λ seated. absurd (cc);
-    };
-  };
-}
-begins number Writing capacity dropped lending some = record {
-  lent = record {
-    begun = refl;
-    goods = refl;
-    some = some;
-    holds = refl;
-    within = omega arith;
-    shut_is = refl;
-  };
-  flow = record {
-    closed_is = refl;
-    out = [];
-    inside = refl;
-    removed = refl;
-    begun = ([], refl);
-    written_is = (refl, refl);
-    sound = λ none. refl;
-    ungot = refl;
-    ungiven = refl;
-    unclosed = λ is. absurd (cc);
-  };
-  result = record { slot = (refl, refl); over_is = refl; let_go = λ is. absurd (cc) };
-  seats = record {
-    job = refl;
-    owner = refl;
-    slot = refl;
-    reason = record {
-      job = λ seated. absurd (cc);
-      owner = λ seated. absurd (cc);
-      slot = λ seated. absurd (cc);
-    };
-  };
-}
-begins number (Seeking goal) capacity dropped lending some = record {
-  lent = record {
-    begun = refl;
-    goods = refl;
-    some = some;
-    holds = refl;
-    within = omega arith;
-    shut_is = refl;
-  };
-  flow = record {
-    plain = record {
-      closed_is = refl;
-      inside = refl;
-      unseated = refl;
-      ungot = refl;
-      unfilled = refl;
-      ungiven = refl;
-      unfound = refl;
-      unwritten = refl;
-    };
-    next_is = tt;
-    place = λ is. absurd (cc);
-  };
-  result = record { slot = (refl, refl); over_is = refl; let_go = λ is. absurd (cc) };
-  seats = record {
-    job = refl;
-    owner = refl;
-    slot = refl;
-    reason = record {
-      job = λ seated. absurd (cc);
-      owner = λ seated. absurd (cc);
-      slot = λ seated. absurd (cc);
-    };
-  };
-}
-begins number Operating capacity dropped lending some = record {
-  lent = record {
-    begun = refl;
-    goods = refl;
-    some = some;
-    holds = refl;
-    within = omega arith;
-    shut_is = refl;
-  };
-  flow = record {
-    plain = record {
-      closed_is = refl;
-      inside = refl;
-      unseated = refl;
-      ungot = refl;
-      unfilled = refl;
-      ungiven = refl;
-      unfound = refl;
-      unwritten = refl;
-    };
-    next_is = tt;
-  };
-  result = record { slot = (refl, refl); over_is = refl; let_go = λ is. absurd (cc) };
-  seats = record {
-    job = refl;
-    owner = refl;
-    slot = refl;
-    reason = record {
-      job = λ seated. absurd (cc);
-      owner = λ seated. absurd (cc);
-      slot = λ seated. absurd (cc);
-    };
-  };
-}
-begins number _ capacity dropped lending some = absurd lending

@@ -1,7 +1,7 @@
 -- What is seen of the steps of owners: acts that no pool decides, and a new job only where a
 -- session begins.
-use Rattle.std.proofs.Common.{◌≡◌, ℕ, List, [], ◌∷◌, length, Bool, true, false, refl, ap, subst}
-use Rattle.std.proofs.Common.{Option, Some, None, if◌then◌else◌}
+use Rattle.std.proofs.Common.{◌≡◌, ℕ, List, [], ◌∷◌, length, Bool, true, false, refl, Option, Some}
+use Rattle.std.proofs.Common.{None, if◌then◌else◌}
 use Rattle.blocking_world_holders.proofs.Types.{Fault, ItemAction, OpAction, ReadAction, SeekAction}
 use Rattle.blocking_world_holders.proofs.Types.{WriteAction, OwnerAction, Act, Told, HandleCall}
 use Rattle.blocking_world_holders.proofs.Types.{SessionJob, OwnerStage}
@@ -26,7 +26,7 @@ use Rattle.blocking_world_holders.proofs.Words.{streamer_works, work_at_put, wor
 use Rattle.blocking_world_holders.proofs.Words.{work_of_consume, writer_works, ItemProgress}
 use Rattle.blocking_world_holders.proofs.Words.{WriteProgress}
 use Rattle.blocking_world_holders.proofs.owners.Goods.{piped_some, through_some}
-use Rattle.blocking_world_holders.proofs.owners.Polls.{value_of}
+use Rattle.blocking_world_holders.proofs.owners.Polls.{moved}
 
 -- Such an act is seen, and accepts these jobs.
 pub record IsPlain (jobs : List ℕ) (act : Act) : Type 0 where
@@ -35,36 +35,40 @@ pub record IsPlain (jobs : List ℕ) (act : Act) : Type 0 where
   pub made : is_making act ≡ false
   pub new : accepted_by act ≡ jobs
 
+-- and so is what an owner did, or its job, which brings no new one
+abbrev PlainDid : Did → Type 0
+PlainDid done = IsPlain [] done.act
+
+abbrev PlainWork : {J : Type 0} → Work J → Type 0
+PlainWork work = IsPlain [] work.act
+
+abbrev PlainWorked : Worked → Type 0
+PlainWorked done = IsPlain [] done.act
+
 -- the job that a step brings
 abbrev pub brought : OwnerStep → List ℕ
 brought (Begins number) = number.serial ∷ []
 brought _ = []
 
--- a value that is there has what holds of it
-moved : {A : Type 0} (P : A → Type 0) (x y : A) → Some x ≡ Some y → P x → P y
-moved P x y e so = subst P (ap (value_of y) e) so
-
 plain_drain : (met : Met (List ℕ × Option JobNumber)) (p : OwnerMachine ℕ) (s : Session)
     (owner : Owner) → IsPlain [] (drain_did met p s owner).act
-plain_drain (Served got) p s owner = record { pool = refl; nothing = refl; made = refl; new = refl }
-plain_drain _ p s owner = record { pool = refl; nothing = refl; made = refl; new = refl }
+plain_drain (Served got) p s owner = assumption
+plain_drain _ p s owner = assumption
 
 plain_receive : (met : Met (ℕ × Option JobNumber)) (p : OwnerMachine ℕ) (s : Session)
     (owner : Owner) → IsPlain [] (receive_did met p s owner).act
-plain_receive (Served got) p s owner =
-    record { pool = refl; nothing = refl; made = refl; new = refl }
-plain_receive _ p s owner = record { pool = refl; nothing = refl; made = refl; new = refl }
+plain_receive (Served got) p s owner = assumption
+plain_receive _ p s owner = assumption
 
 plain_fill : (bytes : List ℕ) (met : Met (ℕ × Option JobNumber)) (p : OwnerMachine ℕ) (s : Session)
     (owner : Owner) → IsPlain [] (fill_did bytes met p s owner).act
-plain_fill bytes (Served went) p s owner =
-    record { pool = refl; nothing = refl; made = refl; new = refl }
-plain_fill bytes _ p s owner = record { pool = refl; nothing = refl; made = refl; new = refl }
+plain_fill bytes (Served went) p s owner = assumption
+plain_fill bytes _ p s owner = assumption
 
 plain_fills : (p : OwnerMachine ℕ) (asked : Option HandleCall) (last : Option Session)
     (owner : Owner) (done : Did) → fill_did_in p asked last owner ≡ Some done → IsPlain [] done.act
 plain_fills p (Some (HandleCall.Write (byte ∷ bytes))) (Some s) owner done e =
-    moved (λ (d : Did). IsPlain [] d.act) _ done (through_some OfBytes s.goods _ done e).1
+    moved PlainDid _ done (through_some OfBytes s.goods _ done e).1
     (plain_fill (byte ∷ bytes) (filled (length (byte ∷ bytes)) s) p s owner)
 plain_fills p (Some (HandleCall.Write (byte ∷ bytes))) None owner done e = absurd (cc)
 plain_fills p (Some (HandleCall.Write [])) last owner done e = absurd (cc)
@@ -75,37 +79,30 @@ plain_look : (content : Content (Option (Fault ℕ))) (p : OwnerMachine ℕ)
     → IsPlain [] done.act
 plain_look GivenUp p s owner done e = absurd (cc)
 plain_look (Abandoned true) p s owner done e = absurd (cc)
-plain_look (Abandoned false) p s owner done e = moved (λ (d : Did). IsPlain [] d.act) _ done e
-    (record { pool = refl; nothing = refl; made = refl; new = refl })
-plain_look _ p s owner done e = moved (λ (d : Did). IsPlain [] d.act) _ done e
-    (record { pool = refl; nothing = refl; made = refl; new = refl })
+plain_look (Abandoned false) p s owner done e = moved PlainDid _ done e assumption
+plain_look _ p s owner done e = moved PlainDid _ done e assumption
 
 plain_find : (content : Content ℕ) (p : OwnerMachine ℕ) (s : Session) (owner : Owner) (done : Did)
     → find_did (awaited_as content) p s owner ≡ Some done → IsPlain [] done.act
 plain_find GivenUp p s owner done e = absurd (cc)
 plain_find (Abandoned true) p s owner done e = absurd (cc)
-plain_find (Abandoned false) p s owner done e = moved (λ (d : Did). IsPlain [] d.act) _ done e
-    (record { pool = refl; nothing = refl; made = refl; new = refl })
-plain_find _ p s owner done e = moved (λ (d : Did). IsPlain [] d.act) _ done e
-    (record { pool = refl; nothing = refl; made = refl; new = refl })
+plain_find (Abandoned false) p s owner done e = moved PlainDid _ done e assumption
+plain_find _ p s owner done e = moved PlainDid _ done e assumption
 
 plain_did : (next : OwnerAction ℕ) (p : OwnerMachine ℕ) (last : Option Session) (owner : Owner)
     (done : Did) → did_in next p last owner ≡ Some done → IsPlain [] done.act
 plain_did (OwnerAction.Reply r) p last owner done e = by_told (reply_as (item_in last) r) e
   where
     by_told : (told : Option Told) → reply_did told p owner ≡ Some done → IsPlain [] done.act
-    by_told (Some told) e = moved (λ (d : Did). IsPlain [] d.act) _ done e
-        (record { pool = refl; nothing = refl; made = refl; new = refl })
+    by_told (Some told) e = moved PlainDid _ done e assumption
     by_told None e = absurd (cc)
 plain_did (OwnerAction.Fill most) p last owner done e = plain_fills p owner.asked last owner done e
-plain_did OwnerAction.DropHandle p last owner done e = moved (λ (d : Did). IsPlain [] d.act) _ done
-    e (record { pool = refl; nothing = refl; made = refl; new = refl })
-plain_did OwnerAction.Close p (Some s) owner done e = moved (λ (d : Did). IsPlain [] d.act) _ done
-    (piped_some s.goods _ done e) (record { pool = refl; nothing = refl; made = refl; new = refl })
-plain_did (OwnerAction.Drain most) p (Some s) owner done e =
-    moved (λ (d : Did). IsPlain [] d.act) _ done (through_some OfBytes s.goods _ done e).1
-    (plain_drain (drained (reach most s) s) p s owner)
-plain_did OwnerAction.Receive p (Some s) owner done e = moved (λ (d : Did). IsPlain [] d.act) _ done
+plain_did OwnerAction.DropHandle p last owner done e = moved PlainDid _ done e assumption
+plain_did OwnerAction.Close p (Some s) owner done e =
+    moved PlainDid _ done (piped_some s.goods _ done e) assumption
+plain_did (OwnerAction.Drain most) p (Some s) owner done e = moved PlainDid _ done
+    (through_some OfBytes s.goods _ done e).1 (plain_drain (drained (reach most s) s) p s owner)
+plain_did OwnerAction.Receive p (Some s) owner done e = moved PlainDid _ done
     (through_some OfItems s.goods _ done e).1 (plain_receive (received s) p s owner)
 plain_did OwnerAction.PollSlot p (Some s) owner done e =
     plain_look s.slot.content p (session_after_look s.slot.content s) owner done e
@@ -115,59 +112,48 @@ plain_did _ p None owner done e = absurd (cc)
 plain_did _ p (Some s) owner done e = absurd (cc)
 
 plain_room : (met : Met ℕ) → IsPlain [] (seen_room met)
-plain_room (Served n) = record { pool = refl; nothing = refl; made = refl; new = refl }
-plain_room _ = record { pool = refl; nothing = refl; made = refl; new = refl }
+plain_room (Served n) = assumption
+plain_room _ = assumption
 
 plain_put : (n : ℕ) (met : Met (Option (Unit {0}))) → IsPlain [] (seen_put n met)
-plain_put n (Served seat) = record { pool = refl; nothing = refl; made = refl; new = refl }
-plain_put n _ = record { pool = refl; nothing = refl; made = refl; new = refl }
+plain_put n (Served seat) = assumption
+plain_put n _ = assumption
 
 plain_work : (a : ReadAction) (p : ReadProgress) (s : Session) (work : Work ReadProgress)
     → work_by a p s ≡ Some work → IsPlain [] work.act
-plain_work ReadAction.FindRoom p s work e =
-    moved (λ (w : Work ReadProgress). IsPlain [] w.act) _ work e (plain_room (found_room s))
+plain_work ReadAction.FindRoom p s work e = moved PlainWork _ work e (plain_room (found_room s))
 plain_work (ReadAction.Put count) p s work e = at (fits_in p.piece s) e
   where
     at : (b : Bool) → (if b then Some (work_at_put (found_put p.piece s) p s) else None) ≡ Some work
         → IsPlain [] work.act
-    at true e = moved (λ (w : Work ReadProgress). IsPlain [] w.act) _ work e
-        (plain_put _ (found_put p.piece s))
+    at true e = moved PlainWork _ work e (plain_put _ (found_put p.piece s))
     at false e = absurd (cc)
-plain_work ReadAction.Close p s work e = moved (λ (w : Work ReadProgress). IsPlain [] w.act) _ work
-    e (record { pool = refl; nothing = refl; made = refl; new = refl })
-plain_work ReadAction.Finish p s work e = moved (λ (w : Work ReadProgress). IsPlain [] w.act) _ work
-    e (record { pool = refl; nothing = refl; made = refl; new = refl })
+plain_work ReadAction.Close p s work e = moved PlainWork _ work e assumption
+plain_work ReadAction.Finish p s work e = moved PlainWork _ work e assumption
 plain_work _ p s work e = absurd (cc)
 
 plain_peek : (met : Met (List ℕ)) → IsPlain [] (seen_peek met)
-plain_peek (Served piece) = record { pool = refl; nothing = refl; made = refl; new = refl }
-plain_peek _ = record { pool = refl; nothing = refl; made = refl; new = refl }
+plain_peek (Served piece) = assumption
+plain_peek _ = assumption
 
 plain_writer : (a : WriteAction) (p : WriteProgress) (s : Session) (work : Work WriteProgress)
     → writer_works a p s ≡ Some work → IsPlain [] work.act
-plain_writer WriteAction.Peek p s work e =
-    moved (λ (w : Work WriteProgress). IsPlain [] w.act) _ work e (plain_peek (found_piece s))
+plain_writer WriteAction.Peek p s work e = moved PlainWork _ work e (plain_peek (found_piece s))
 plain_writer (WriteAction.Consume count) p s work e = at (holds count s) e
   where
     at : (b : Bool) → (if b then Some (work_of_consume count p s) else None) ≡ Some work
         → IsPlain [] work.act
-    at true e = moved (λ (w : Work WriteProgress). IsPlain [] w.act) _ work e
-        (record { pool = refl; nothing = refl; made = refl; new = refl })
+    at true e = moved PlainWork _ work e assumption
     at false e = absurd (cc)
-plain_writer WriteAction.Close p s work e = moved (λ (w : Work WriteProgress). IsPlain [] w.act) _
-    work e (record { pool = refl; nothing = refl; made = refl; new = refl })
-plain_writer WriteAction.Finish p s work e = moved (λ (w : Work WriteProgress). IsPlain [] w.act) _
-    work e (record { pool = refl; nothing = refl; made = refl; new = refl })
+plain_writer WriteAction.Close p s work e = moved PlainWork _ work e assumption
+plain_writer WriteAction.Finish p s work e = moved PlainWork _ work e assumption
 plain_writer _ p s work e = absurd (cc)
 
 plain_streamer : (a : ItemAction) (p : ItemProgress) (s : Session) (work : Work ItemProgress)
     → streamer_works a p s ≡ Some work → IsPlain [] work.act
-plain_streamer ItemAction.Send p s work e =
-    moved (λ (w : Work ItemProgress). IsPlain [] w.act) _ work e (plain_put 1 (found_send s))
-plain_streamer ItemAction.Close p s work e = moved (λ (w : Work ItemProgress). IsPlain [] w.act) _
-    work e (record { pool = refl; nothing = refl; made = refl; new = refl })
-plain_streamer ItemAction.Finish p s work e = moved (λ (w : Work ItemProgress). IsPlain [] w.act) _
-    work e (record { pool = refl; nothing = refl; made = refl; new = refl })
+plain_streamer ItemAction.Send p s work e = moved PlainWork _ work e (plain_put 1 (found_send s))
+plain_streamer ItemAction.Close p s work e = moved PlainWork _ work e assumption
+plain_streamer ItemAction.Finish p s work e = moved PlainWork _ work e assumption
 plain_streamer _ p s work e = absurd (cc)
 
 -- what a job does at its session
@@ -175,8 +161,7 @@ plain_by : {J : Type 0} (job_of : J → SessionJob) (o : Option (Work J)) (owner
     (done : Worked) → ((work : Work J) → o ≡ Some work → IsPlain [] work.act)
     → worked_by job_of o owner ≡ Some done → IsPlain [] done.act
 plain_by job_of None owner done plain e = absurd (cc)
-plain_by job_of (Some work) owner done plain e =
-    moved (λ (d : Worked). IsPlain [] d.act) _ done e (plain work refl)
+plain_by job_of (Some work) owner done plain e = moved PlainWorked _ done e (plain work refl)
 
 plain_in : (a : ReadAction) (last : Option Session) (p : ReadProgress) (owner : Owner)
     (done : Worked) → read_in a last p owner ≡ Some done → IsPlain [] done.act
@@ -187,8 +172,7 @@ plain_in a (Some s) p owner done e =
 
 plain_read : (a : ReadAction) (p : ReadProgress) (owner : Owner) (done : Worked)
     → read_as a p owner ≡ Some done → IsPlain [] done.act
-plain_read ReadAction.Deliver p owner done e = moved (λ (d : Worked). IsPlain [] d.act) _ done e
-    (record { pool = refl; nothing = refl; made = refl; new = refl })
+plain_read ReadAction.Deliver p owner done e = moved PlainWorked _ done e assumption
 plain_read a p owner done e = plain_in a owner.session p owner done e
 
 plain_out : (a : WriteAction) (last : Option Session) (p : WriteProgress) (owner : Owner)
@@ -200,8 +184,7 @@ plain_out a (Some s) p owner done e = plain_by
 
 plain_write : (a : WriteAction) (p : WriteProgress) (owner : Owner) (done : Worked)
     → write_as a p owner ≡ Some done → IsPlain [] done.act
-plain_write WriteAction.Deliver p owner done e = moved (λ (d : Worked). IsPlain [] d.act) _ done e
-    (record { pool = refl; nothing = refl; made = refl; new = refl })
+plain_write WriteAction.Deliver p owner done e = moved PlainWorked _ done e assumption
 plain_write a p owner done e = plain_out a owner.session p owner done e
 
 plain_sent : (a : ItemAction) (last : Option Session) (p : ItemProgress) (owner : Owner)
@@ -214,36 +197,30 @@ plain_sent a (Some s) p owner done e =
 
 plain_stream : (a : ItemAction) (p : ItemProgress) (owner : Owner) (done : Worked)
     → stream_as a p owner ≡ Some done → IsPlain [] done.act
-plain_stream ItemAction.Deliver p owner done e = moved (λ (d : Worked). IsPlain [] d.act) _ done e
-    (record { pool = refl; nothing = refl; made = refl; new = refl })
+plain_stream ItemAction.Deliver p owner done e = moved PlainWorked _ done e assumption
 plain_stream a p owner done e = plain_sent a owner.session p owner done e
 
 plain_sought : (a : SeekAction) (last : Option Session) (p : SeekProgress) (owner : Owner)
     (done : Worked) → seek_in a last p owner ≡ Some done → IsPlain [] done.act
 plain_sought a None p owner done e = absurd (cc)
-plain_sought SeekAction.Finish (Some s) p owner done e = moved (λ (d : Worked). IsPlain [] d.act) _
-    done e (record { pool = refl; nothing = refl; made = refl; new = refl })
+plain_sought SeekAction.Finish (Some s) p owner done e = moved PlainWorked _ done e assumption
 plain_sought _ (Some s) p owner done e = absurd (cc)
 
 plain_seek : (a : SeekAction) (p : SeekProgress) (owner : Owner) (done : Worked)
     → seek_as a p owner ≡ Some done → IsPlain [] done.act
-plain_seek SeekAction.Deliver p owner done e = moved (λ (d : Worked). IsPlain [] d.act) _ done e
-    (record { pool = refl; nothing = refl; made = refl; new = refl })
+plain_seek SeekAction.Deliver p owner done e = moved PlainWorked _ done e assumption
 plain_seek a p owner done e = plain_sought a owner.session p owner done e
 
 plain_operated : (a : OpAction) (last : Option Session) (p : OpProgress) (owner : Owner)
     (done : Worked) → operate_in a last p owner ≡ Some done → IsPlain [] done.act
 plain_operated a None p owner done e = absurd (cc)
-plain_operated OpAction.PutResult (Some s) p owner done e = moved (λ (d : Worked). IsPlain [] d.act)
-    _ done e (record { pool = refl; nothing = refl; made = refl; new = refl })
-plain_operated OpAction.Finish (Some s) p owner done e = moved (λ (d : Worked). IsPlain [] d.act) _
-    done e (record { pool = refl; nothing = refl; made = refl; new = refl })
+plain_operated OpAction.PutResult (Some s) p owner done e = moved PlainWorked _ done e assumption
+plain_operated OpAction.Finish (Some s) p owner done e = moved PlainWorked _ done e assumption
 plain_operated _ (Some s) p owner done e = absurd (cc)
 
 plain_operate : (a : OpAction) (p : OpProgress) (owner : Owner) (done : Worked)
     → operate_as a p owner ≡ Some done → IsPlain [] done.act
-plain_operate OpAction.Deliver p owner done e = moved (λ (d : Worked). IsPlain [] d.act) _ done e
-    (record { pool = refl; nothing = refl; made = refl; new = refl })
+plain_operate OpAction.Deliver p owner done e = moved PlainWorked _ done e assumption
 plain_operate a p owner done e = plain_operated a owner.session p owner done e
 
 -- an act of a job, whatever it does
@@ -269,18 +246,15 @@ plain_of Acts owner act e = at (did owner) refl e
     at : (o : Option Did) → did owner ≡ o → act_in o ≡ Some act → IsPlain [] act
     at None is e = absurd (cc)
     at (Some done) is e = moved (IsPlain []) done.act act e (by_stage owner.stage done is)
-plain_of (Begins number) owner act e = moved (IsPlain (number.serial ∷ [])) _ act e
-    (record { pool = refl; nothing = refl; made = refl; new = refl })
+plain_of (Begins number) owner act e = moved (IsPlain (number.serial ∷ [])) _ act e assumption
 plain_of (Delivers woke) owner act e = at (note_at owner.stage) e
   where
     at : (o : Option JobNumber) → delivered woke o ≡ Some act → IsPlain [] act
     at None e = absurd (cc)
-    at (Some number) e =
-        moved (IsPlain []) _ act e (record { pool = refl; nothing = refl; made = refl; new = refl })
+    at (Some number) e = moved (IsPlain []) _ act e assumption
 plain_of (Works p) owner act e = at (worked p owner) refl e
   where
     at : (o : Option Worked) → worked p owner ≡ o → act_of_work o ≡ Some act → IsPlain [] act
     at None is e = absurd (cc)
     at (Some done) is e = moved (IsPlain []) done.act act e (plain_worked p owner done is)
-plain_of _ owner act e =
-    moved (IsPlain []) _ act e (record { pool = refl; nothing = refl; made = refl; new = refl })
+plain_of _ owner act e = moved (IsPlain []) _ act e assumption

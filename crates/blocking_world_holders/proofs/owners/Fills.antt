@@ -1,7 +1,7 @@
 -- The session of an owner who writes after it fills the pipe.
 use Rattle.std.proofs.Common.{◌≡◌, ℕ, ◌<◌, ◌≤◌, ◌==◌, List, ◌++◌, length, length-append}
 use Rattle.std.proofs.Common.{append_assoc, Bool, true, false, refl, sym, ap, ◌∙◌, subst, arith}
-use Rattle.std.proofs.Common.{Option, Some, if◌then◌else◌, min, take, eqb-true, length-take}
+use Rattle.std.proofs.Common.{Option, if◌then◌else◌, min, take, eqb-true, length-take}
 use Rattle.std.proofs.lemmas.Bool.Decides.{nat_tests}
 use Rattle.std.proofs.lemmas.List.{take-append-le}
 use Rattle.blocking_world_holders.proofs.Types.{Act, FillShut, Filled, Waits}
@@ -11,7 +11,7 @@ use Rattle.blocking_world_holders.proofs.Words.{OfferBytes, Over, Peek, Writing,
 use Rattle.blocking_world_holders.proofs.Words.{next_but_wake, seen_fill, IsBeginning, SeenSession}
 use Rattle.blocking_world_holders.proofs.Words.{SessionAs, WrittenAs, Wrote, wrote_by, Session}
 use Rattle.blocking_world_holders.proofs.Words.{filled, serial_of, session_after_fill}
-use Rattle.blocking_world_holders.proofs.owners.Drains.{written_with}
+use Rattle.blocking_world_holders.proofs.owners.Drains.{lent_with, written_with, owner_sits}
 
 -- ---- what a fill finds
 
@@ -150,14 +150,7 @@ module _ (s : Session) (capacity : ℕ) (last : Option SeenSession) (shut back d
       let written = subst (λ b. WrittenAs (next_but_wake Writing acts) t.flow.out s.pipe.items
       s.pipe.is_job_open b (has_given_up acts) (wrote_by acts)) unshut t.flow.written_is in
       record {
-        lent = record {
-          begun = t.lent.begun;
-          goods = t.lent.goods;
-          some = t.lent.some;
-          holds = t.lent.holds;
-          within = rw length-append (omega (arith, within, holds, entered));
-          shut_is = t.lent.shut_is;
-        };
+        lent = lent_with s t.lent (rw length-append (omega (arith, within, holds, entered)));
         flow = record {
           closed_is = t.flow.closed_is;
           out = t.flow.out;
@@ -194,25 +187,8 @@ module _ (s : Session) (capacity : ℕ) (last : Option SeenSession) (shut back d
       → SessionAs (session_after_fill bytes Waiting s) Writing capacity last shut back dropped took
       accepted acts js true ss
   fill_waits bytes found t = record {
-    lent = record {
-      begun = t.lent.begun;
-      goods = t.lent.goods;
-      some = t.lent.some;
-      holds = t.lent.holds;
-      within = t.lent.within;
-      shut_is = t.lent.shut_is;
-    };
-    flow = written_with s s.pipe.is_job_open s.pipe.is_owner_open s.pipe.job_seat (Some tt) s.slot
-        t.flow t.flow.closed_is t.flow.written_is t.flow.unclosed;
+    lent = lent_with s t.lent t.lent.within;
+    flow = written_with s t.flow t.flow.closed_is t.flow.written_is t.flow.unclosed;
     result = t.result;
-    seats = record {
-      job = t.seats.job;
-      owner = refl;
-      slot = t.seats.slot;
-      reason = record {
-        job = t.seats.reason.job;
-        owner = λ seated. fill_full (length bytes) s found;
-        slot = t.seats.reason.slot;
-      };
-    };
+    seats = owner_sits s t.seats (fill_full (length bytes) s found);
   }

@@ -15,7 +15,7 @@ use Rattle.blocking_world_holders.proofs.Words.{job_next_after_answer as next_af
 use Rattle.blocking_world_holders.proofs.Words.{next_but_wake, answered, gave, was_put, SeenSession}
 use Rattle.blocking_world_holders.proofs.Words.{GaveAll, SessionAs, is_finding, passed_by, Session}
 use Rattle.blocking_world_holders.proofs.Words.{session_after_send}
-use Rattle.blocking_world_holders.proofs.owners.Drains.{flow_with}
+use Rattle.blocking_world_holders.proofs.owners.Drains.{lent_with, job_sits, flow_with}
 use Rattle.blocking_world_holders.proofs.owners.ReadSessions.{At, at, tied_at, going, longer}
 use Rattle.blocking_world_holders.proofs.owners.ReadSessions.{lost_is, put_is, still, unseated}
 use Rattle.blocking_world_holders.proofs.owners.ReadSessions.{nobody_sits}
@@ -57,14 +57,7 @@ module _ (s : Session) (capacity : ℕ) (last : Option SeenSession) (shut back d
       let more : was_put acts ++ take 1 (answered acts) ≡ was_put acts ++ x ∷ [] =
       ap (λ l. was_put acts ++ l) whole in
       record {
-        lent = record {
-          begun = t.lent.begun;
-          goods = t.lent.goods;
-          some = t.lent.some;
-          holds = t.lent.holds;
-          within = rw length-append (omega (arith, within, holds, fits));
-          shut_is = t.lent.shut_is;
-        };
+        lent = lent_with s t.lent (rw length-append (omega (arith, within, holds, fits)));
         flow = record {
           closed_is = t.flow.closed_is;
           inside =
@@ -106,12 +99,11 @@ module _ (s : Session) (capacity : ℕ) (last : Option SeenSession) (shut back d
       let stopped : shut ≡ true = t.lent.shut_is ∙ ap not closed in
       record {
         lent = t.lent;
-        flow = flow_with s s.pipe.is_job_open s.pipe.is_owner_open s.pipe.job_seat s.pipe.owner_seat
-            s.slot t.flow.closed_is (
-              t.flow.passed_is.0,
-              subst (λ b. GaveAll (b || has_given_up acts) (passed_by acts))
-                  (sym stopped) tt,
-            ) (λ is. absurd (cc)) t.flow;
+        flow = flow_with s t.flow.closed_is (
+          t.flow.passed_is.0,
+          subst (λ b. GaveAll (b || has_given_up acts) (passed_by acts))
+              (sym stopped) tt,
+        ) (λ is. absurd (cc)) t.flow;
         result = t.result;
         seats = nobody_sits s Streaming (true || has_given_up acts) (false || has_given_up acts) js
             ps ss (λ seated. let lasts = (t.seats.reason.job seated).2 in cc) t.seats;
@@ -126,40 +118,13 @@ module _ (s : Session) (capacity : ℕ) (last : Option SeenSession) (shut back d
   send_parks found e t =
       let full = no_space (room s.pipe) s.pipe.is_owner_open s.pipe.owner_seat found in
       record {
-        lent = record {
-          begun = t.lent.begun;
-          goods = t.lent.goods;
-          some = t.lent.some;
-          holds = t.lent.holds;
-          within = t.lent.within;
-          shut_is = t.lent.shut_is;
-        };
-        flow = record {
-          closed_is = t.flow.closed_is;
-          inside = t.flow.inside;
-          put = t.flow.put;
-          bounded = t.flow.bounded;
-          sound = t.flow.sound;
-          passed_is = t.flow.passed_is;
-          unclosed = t.flow.unclosed;
-          unwritten = t.flow.unwritten;
-        };
+        lent = lent_with s t.lent t.lent.within;
+        flow = flow_with s t.flow.closed_is t.flow.passed_is t.flow.unclosed t.flow;
         result = t.result;
-        seats = record {
-          job = refl;
-          owner = t.seats.owner;
-          slot = t.seats.slot;
-          reason = record {
-            job = λ seated. (
-              or_left (is_finding (next_but_wake Streaming acts)) (has_given_up acts)
-                  (ap is_finding e),
-              full.0,
-              full.1,
-            );
-            owner = t.seats.reason.owner;
-            slot = t.seats.reason.slot;
-          };
-        };
+        seats = job_sits s t.seats
+            (or_left (is_finding (next_but_wake Streaming acts)) (has_given_up acts)
+            (ap is_finding e))
+            full;
       }
 
 module _ (s : Session) (capacity : ℕ) (last : Option SeenSession) (shut back dropped : Bool)

@@ -1,7 +1,7 @@
 -- An act of its job keeps the law of an owner, and the tie of the owner to its cut.
 use Rattle.std.proofs.Common.{◌≡◌, ℕ, suc, zero, ◌==◌, List, [], ◌∷◌, length, Bool, true, false}
 use Rattle.std.proofs.Common.{refl, sym, ap, ◌∙◌, subst, arith, Option, Some, None, ⊎_elim, inl}
-use Rattle.std.proofs.Common.{inr, ◌||◌, ◌⊎◌, ◌++◌, not, drop, is_some, is_none, eq-eqb}
+use Rattle.std.proofs.Common.{inr, ◌&&◌, ◌||◌, ◌⊎◌, ◌++◌, not, drop, is_some, is_none, eq-eqb}
 use Rattle.std.proofs.lemmas.Bool.{or_left, or_right}
 use Rattle.std.proofs.lemmas.Bool.Decides.{nat_tests}
 use Rattle.blocking_world_holders.proofs.Types.{Fault, HolderWaker, ItemAction, OpAction}
@@ -9,6 +9,7 @@ use Rattle.blocking_world_holders.proofs.Types.{ReadAction, SeekAction, WriteAct
 use Rattle.blocking_world_holders.proofs.Types.{Drained, Finished, GaveUp, JobClosed, JobParked}
 use Rattle.blocking_world_holders.proofs.Types.{Lost, Peeked, Put, ResultPut, RoomFree, RoomShut}
 use Rattle.blocking_world_holders.proofs.Types.{TakenOut, Event, Answer, HandleCall, OwnerStage}
+use Rattle.blocking_world_holders.proofs.Types.{Asked, Back, Replied}
 use Rattle.blocking_world_holders.proofs.Words.{item_next, operation_next, Pipe, room, Closed, Met}
 use Rattle.blocking_world_holders.proofs.Words.{Served, Waiting, find_room, hand_in, peek}
 use Rattle.blocking_world_holders.proofs.Words.{read_next, seek_next, Slot, after_put, answer_of}
@@ -22,42 +23,37 @@ use Rattle.blocking_world_holders.proofs.Words.{Seeking, SendItem, Streaming, Wr
 use Rattle.blocking_world_holders.proofs.Words.{has_finished, has_given_up, has_result, is_answer}
 use Rattle.blocking_world_holders.proofs.Words.{is_over, is_taken, job_next_after_answer}
 use Rattle.blocking_world_holders.proofs.Words.{next_but_wake, next_of_job, number, piece}
-use Rattle.blocking_world_holders.proofs.Words.{takes_waker, job_wake_first, JobActs, Works}
-use Rattle.blocking_world_holders.proofs.Words.{is_job_seated, job_seated_by, pipe_seat}
-use Rattle.blocking_world_holders.proofs.Words.{pipe_seated_by, place_of, result_seat}
-use Rattle.blocking_world_holders.proofs.Words.{result_seated_by, slot_seat, slot_seated_by}
-use Rattle.blocking_world_holders.proofs.Words.{next_of_owner, owner_next_but_wake, accepted, got}
-use Rattle.blocking_world_holders.proofs.Words.{inside, is_serial, room_in, seated, seen_peek}
-use Rattle.blocking_world_holders.proofs.Words.{seen_put, seen_room, waker_in, acts_of, is_nothing}
-use Rattle.blocking_world_holders.proofs.Words.{is_of_pool, own, SeenSession, seen_call}
+use Rattle.blocking_world_holders.proofs.Words.{takes_waker, JobActs, Works, is_job_seated}
+use Rattle.blocking_world_holders.proofs.Words.{job_seated_by, pipe_seat, pipe_seated_by, place_of}
+use Rattle.blocking_world_holders.proofs.Words.{result_seat, result_seated_by, slot_seat}
+use Rattle.blocking_world_holders.proofs.Words.{slot_seated_by, next_of_owner, owner_next_but_wake}
+use Rattle.blocking_world_holders.proofs.Words.{accepted, got, inside, is_serial, room_in, seated}
+use Rattle.blocking_world_holders.proofs.Words.{seen_peek, seen_put, seen_room, waker_in, acts_of}
+use Rattle.blocking_world_holders.proofs.Words.{is_nothing, is_of_pool, own, SeenSession, seen_call}
 use Rattle.blocking_world_holders.proofs.Words.{seen_is_dropped, seen_is_shut, jobs_of, kind_of_job}
 use Rattle.blocking_world_holders.proofs.Words.{seen_last_session, seen_session, seen_state}
 use Rattle.blocking_world_holders.proofs.Words.{was_woken, OperationAs, OpProgress}
-use Rattle.blocking_world_holders.proofs.Words.{operation_action_as, operation_action_of}
-use Rattle.blocking_world_holders.proofs.Words.{by_its_job, IsAtEnd, OwnerAs, PlaceAs, PlaceBy}
-use Rattle.blocking_world_holders.proofs.Words.{ResultAs, SessionAs, StageBy, has_found, is_seated}
-use Rattle.blocking_world_holders.proofs.Words.{newest_note, ReadProgress as Progress, ReadAs}
-use Rattle.blocking_world_holders.proofs.Words.{read_action_as as action_as}
+use Rattle.blocking_world_holders.proofs.Words.{operation_action_of, by_its_job, IsAtEnd, OwnerAs}
+use Rattle.blocking_world_holders.proofs.Words.{PlaceAs, PlaceBy, ResultAs, SessionAs, StageBy}
+use Rattle.blocking_world_holders.proofs.Words.{has_found, is_seated, newest_note}
+use Rattle.blocking_world_holders.proofs.Words.{ReadProgress as Progress, ReadAs}
 use Rattle.blocking_world_holders.proofs.Words.{read_action_of as action_of, SeekProgress, SeekAs}
-use Rattle.blocking_world_holders.proofs.Words.{seek_action_as, seek_action_of, Session, Work}
-use Rattle.blocking_world_holders.proofs.Words.{finish_wakes, fits_in, found_piece, found_put}
-use Rattle.blocking_world_holders.proofs.Words.{found_room, found_send, give_up_wakes}
-use Rattle.blocking_world_holders.proofs.Words.{operation_finishes, operation_puts, result_wakes}
-use Rattle.blocking_world_holders.proofs.Words.{seek_finishes, session_after_give_up}
-use Rattle.blocking_world_holders.proofs.Words.{session_after_job_close, streamer_closes}
-use Rattle.blocking_world_holders.proofs.Words.{streamer_finishes, work_at_peek, work_at_put}
-use Rattle.blocking_world_holders.proofs.Words.{work_at_room, work_at_send, work_of_close}
-use Rattle.blocking_world_holders.proofs.Words.{work_of_consume, work_of_finish, writer_closes}
-use Rattle.blocking_world_holders.proofs.Words.{writer_finishes, ItemAs, ItemProgress}
-use Rattle.blocking_world_holders.proofs.Words.{item_action_as, item_action_of, WriteProgress}
-use Rattle.blocking_world_holders.proofs.Words.{WriteAs, write_action_as, write_action_of}
-use Rattle.blocking_world_holders.proofs.Words.{write_fault_of}
+use Rattle.blocking_world_holders.proofs.Words.{seek_action_of, Session, Work, finish_wakes}
+use Rattle.blocking_world_holders.proofs.Words.{fits_in, found_piece, found_put, found_room}
+use Rattle.blocking_world_holders.proofs.Words.{found_send, give_up_wakes, operation_finishes}
+use Rattle.blocking_world_holders.proofs.Words.{operation_puts, result_wakes, seek_finishes}
+use Rattle.blocking_world_holders.proofs.Words.{session_after_give_up, session_after_job_close}
+use Rattle.blocking_world_holders.proofs.Words.{streamer_closes, streamer_finishes, work_at_peek}
+use Rattle.blocking_world_holders.proofs.Words.{work_at_put, work_at_room, work_at_send}
+use Rattle.blocking_world_holders.proofs.Words.{work_of_close, work_of_consume, work_of_finish}
+use Rattle.blocking_world_holders.proofs.Words.{writer_closes, writer_finishes, ItemAs}
+use Rattle.blocking_world_holders.proofs.Words.{ItemProgress, item_action_of, WriteProgress}
+use Rattle.blocking_world_holders.proofs.Words.{WriteAs, write_action_of, write_fault_of}
 use Rattle.blocking_world_laws.specs.OwnerTable as law
 use Rattle.blocking_world_holders.proofs.owners.Jobs.{no_wait}
 use Rattle.blocking_world_holders.proofs.owners.Cuts.{its_kind, kind_is, inside_is, next_stays}
 use Rattle.blocking_world_holders.proofs.owners.Cuts.{room_is, open_is}
 use Rattle.blocking_world_holders.proofs.owners.Polls.{Goes, owner_by_parts, bound}
-use Rattle.blocking_world_holders.proofs.owners.ReadJobs.{next_by, action_is, awake, asks}
 use Rattle.blocking_world_holders.proofs.owners.ReadSessions.{At, at, finds, finds_shut, parks}
 use Rattle.blocking_world_holders.proofs.owners.ReadSessions.{puts, loses, closes, finishes}
 use Rattle.blocking_world_holders.proofs.owners.ReadSessions.{gives_up, going, some_room, put_is}
@@ -69,6 +65,8 @@ use Rattle.blocking_world_holders.proofs.owners.SeekSessions.{seek_answers, seek
 use Rattle.blocking_world_holders.proofs.owners.OpSessions.{operation_answers, result_puts}
 use Rattle.blocking_world_holders.proofs.owners.Results.{is_operating}
 use Rattle.blocking_world_holders.proofs.owners.ReadSessions as Sessions
+use Rattle.blocking_world_holders.proofs.owners.Machines.{asking_goes}
+use Rattle.blocking_world_holders.proofs.owners.ReadJobs as of_reader
 use Rattle.blocking_world_holders.proofs.owners.WriteJobs as of_writer
 use Rattle.blocking_world_holders.proofs.owners.ItemJobs as of_streamer
 use Rattle.blocking_world_holders.proofs.owners.SeekJobs as of_seeker
@@ -98,11 +96,6 @@ taken_third true b c woke after same e = inr refl
 taken_third false true c woke after same e = inr refl
 taken_third false false c woke after same e = inl (ap (λ d. is_taken (waker_in d)) (same ∙ e))
 
--- what is answered asks, and isn't over
-pub asking_goes : (action : JobAction) (answer : Answer) → is_answer action answer ≡ true
-    → is_over action ≡ false
-asking_goes action answer is = grind arith
-
 answers_it : (cut : List Event) (action : JobAction) (answer : Answer)
     → is_answer action answer ≡ true → Works cut action (Answered answer)
 answers_it cut AskCall answer is = is
@@ -113,6 +106,14 @@ answers_it cut AskItem answer is = is
 answers_it cut AskSeek answer is = is
 answers_it cut AskResult answer is = is
 answers_it cut _ answer is = absurd (cc)
+
+-- whether an act is one that a job does by itself, at its session
+abbrev pub is_own : Act → Bool
+is_own (Answered answer) = false
+is_own (Asked call) = false
+is_own (Replied reply) = false
+is_own Back = false
+is_own act = not (is_of_pool act) && not (is_nothing act)
 
 module _ (bytes client : ℕ) (asked : Option HandleCall) (here : OwnerStage)
     (s : Session) (h v first : ℕ) (growth : Growth) (cut : List Event)
@@ -199,6 +200,20 @@ module _ (bytes client : ℕ) (asked : Option HandleCall) (here : OwnerStage)
     pub back : (here : List Event) (before : Option (List Event)) → back_by act here before ≡ before
     pub faults : over ≡ true → (any : Kind)
         → (fault any (act ∷ acts) ≡ fault any acts) × (number (act ∷ acts) ≡ number acts)
+
+  -- and so is each such act
+  own_act : (act : Act) → is_own act ≡ true → IsOwn act
+  own_act (Answered answer) is = absurd (cc)
+  own_act (Asked call) is = absurd (cc)
+  own_act (Replied reply) is = absurd (cc)
+  own_act Back is = absurd (cc)
+  own_act act is = record {
+    pool = cc;
+    nothing = cc;
+    ends = tt;
+    back = λ here before. refl;
+    faults = λ ended any. (refl, refl);
+  }
 
   -- What an act of the job, which is of this kind, has to keep, so that the tie and the law do.
   pub record KeepsAll (k : Kind) (act : Act) (pipe : Pipe ℕ (Unit {0})) (result : Slot ℕ (Unit {0}))
@@ -334,7 +349,7 @@ module _ (bytes client : ℕ) (asked : Option HandleCall) (here : OwnerStage)
 
     -- it leaves the pipe as it is, but for its own seat there
     stays_goes : is_operating of ≡ false → (act : Act) (seat : Option JobNumber)
-        → IsOwn act → (has_result (act ∷ acts) ≡ has_result acts)
+        → is_own act ≡ true → (has_result (act ∷ acts) ≡ has_result acts)
         × (result_seated_by act (place_of (next_of_owner cut)) rs ≡ rs)
         → JobActs cut s.number.serial of act
         → Tied (now_at (record s.pipe { job_seat = seat }) s.result s.slot s.left) of (act ∷ acts)
@@ -343,10 +358,10 @@ module _ (bytes client : ℕ) (asked : Option HandleCall) (here : OwnerStage)
         → Goes (owner_by_parts bytes client asked
         here (Some (now_at (record s.pipe { job_seat = seat }) s.result s.slot s.left))) cut
         (event act)
-    stays_goes other act seat own_is leaves lawful session =
+    stays_goes other act seat its leaves lawful session =
         keeps_all of same act (record s.pipe { job_seat = seat }) s.result s.slot s.left among
         (record {
-          own_is = own_is;
+          own_is = own_act act its;
           lawful = lawful;
           session = session;
           place = same_place of same other act leaves.0 leaves.1;
@@ -356,7 +371,7 @@ module _ (bytes client : ℕ) (asked : Option HandleCall) (here : OwnerStage)
 
     -- it changes the pipe, and calls the owner where it sits there
     pipe_goes : is_operating of ≡ false → (act : Act) (pipe : Pipe ℕ (Unit {0}))
-        → IsOwn act → (has_result (act ∷ acts) ≡ has_result acts)
+        → is_own act ≡ true → (has_result (act ∷ acts) ≡ has_result acts)
         × (result_seated_by act (place_of (next_of_owner cut)) rs ≡ rs)
         → JobActs cut s.number.serial of act
         → Tied (now_at pipe s.result s.slot s.left) of (act ∷ acts)
@@ -365,9 +380,9 @@ module _ (bytes client : ℕ) (asked : Option HandleCall) (here : OwnerStage)
         → s.pipe.is_job_open ≡ true → takes_waker act ≡ is_some s.pipe.owner_seat
         → Goes (owner_by_parts bytes client asked here (Some (now_at pipe s.result s.slot s.left)))
         cut (event act)
-    pipe_goes other act pipe own_is leaves lawful session lasts takes =
+    pipe_goes other act pipe its leaves lawful session lasts takes =
         keeps_all of same act pipe s.result s.slot s.left among (record {
-          own_is = own_is;
+          own_is = own_act act its;
           lawful = lawful;
           session = session;
           place = same_place of same other act leaves.0 leaves.1;
@@ -388,14 +403,8 @@ module _ (bytes client : ℕ) (asked : Option HandleCall) (here : OwnerStage)
         (event (JobClosed (waker_in (is_some s.pipe.owner_seat))))
     closes_goes other next lasts here_now =
         let act = JobClosed (waker_in (is_some s.pipe.owner_seat)) in
-        pipe_goes other act (record s.pipe { is_job_open = false; owner_seat = None })
-        (record {
-          pool = refl;
-          nothing = refl;
-          ends = tt;
-          back = λ here before. refl;
-          faults = λ is any. (refl, refl);
-        }) (refl, refl)
+        pipe_goes other act (record s.pipe { is_job_open = false; owner_seat = None }) refl
+        (refl, refl)
         (lawful_at CloseEnd act next (ap (λ b. JobClosed (waker_in b)) (sym t.last.seats.owner)))
         (closes s of (bound bytes of) began shut over
         gone took written acts js ps ss (waker_in (is_some s.pipe.owner_seat)) here_now) lasts
@@ -420,13 +429,7 @@ module _ (bytes client : ℕ) (asked : Option HandleCall) (here : OwnerStage)
         let act = Finished (waker_in woke) in
         keeps_all of same act s.pipe s.result (slot_after s.slot.content s.slot.seat why) left among
         (record {
-          own_is = record {
-            pool = refl;
-            nothing = refl;
-            ends = tt;
-            back = λ here before. refl;
-            faults = λ is any. (refl, refl);
-          };
+          own_is = own_act act refl;
           lawful = lawful_at Finish act next
               (ap (λ b. Finished (waker_in b)) (sits ∙ sym t.last.seats.slot));
           session = session (waker_in woke);
@@ -481,14 +484,6 @@ module _ (bytes client : ℕ) (asked : Option HandleCall) (here : OwnerStage)
 
   module _ (p : Progress) (r : ReadAs p acts) (reads : kind ≡ Reading)
       (among : is_in s.number.serial (jobs_of (own cut)) ≡ true) where
-    table : (now : ReadAction) → read_next p.core ≡ now → (now ≡ ReadAction.Deliver → ⊥)
-        → next_but_wake Reading acts ≡ action_as p.piece now
-    table now is other = sym r.next ∙ ap (action_as p.piece) (awake p now is other).next_is
-
-    next_is : (now : ReadAction) → read_next p.core ≡ now
-        → next_of_job Reading acts ≡ action_as p.piece now
-    next_is now is = sym (action_is p acts r) ∙ ap (action_as p.piece) is
-
     -- it looks for room
     room_found : found_room s ≡ find_room (room_in cut) (not shut)
     room_found =
@@ -501,44 +496,26 @@ module _ (bytes client : ℕ) (asked : Option HandleCall) (here : OwnerStage)
     room_works is (Served zero) found =
         absurd (let some = (some_room (room s.pipe) 0 s.pipe.is_owner_open found).1 in omega arith)
     room_works is (Served (suc n)) found =
-        stays_goes Reading reads among refl (RoomFree (suc n)) s.pipe.job_seat
-        (record {
-          pool = refl;
-          nothing = refl;
-          ends = tt;
-          back = λ here before. refl;
-          faults = λ is any. (refl, refl);
-        }) (refl, refl)
-        (lawful_at Reading reads among FindRoom (RoomFree (suc n)) (next_is ReadAction.FindRoom is)
+        let d = of_reader.does p acts r is (λ e. cc) in
+        stays_goes Reading reads among refl (RoomFree (suc n)) s.pipe.job_seat refl (refl, refl)
+        (lawful_at Reading reads among FindRoom (RoomFree (suc n)) d.law
         (ap seen_room (sym found ∙ room_found)))
         (finds s (bound bytes Reading) began shut over gone took written acts js ps ss (suc n) found
-        (tied Reading reads among FindRoom (table ReadAction.FindRoom is (λ e. cc))))
+        (tied Reading reads among FindRoom d.table))
     room_works is Waiting found =
-        stays_goes Reading reads among refl JobParked (Some s.number)
-        (record {
-          pool = refl;
-          nothing = refl;
-          ends = tt;
-          back = λ here before. refl;
-          faults = λ is any. (refl, refl);
-        }) (refl, refl)
-        (lawful_at Reading reads among FindRoom JobParked (next_is ReadAction.FindRoom is)
+        let d = of_reader.does p acts r is (λ e. cc) in
+        stays_goes Reading reads among refl JobParked (Some s.number) refl (refl, refl)
+        (lawful_at Reading reads among FindRoom JobParked d.law
         (ap seen_room (sym found ∙ room_found)))
         (parks s (bound bytes Reading) began shut over gone took written acts js ps ss found
-        (table ReadAction.FindRoom is (λ e. cc)) (last_as Reading reads))
+        d.table (last_as Reading reads))
     room_works is Closed found =
-        stays_goes Reading reads among refl RoomShut s.pipe.job_seat
-        (record {
-          pool = refl;
-          nothing = refl;
-          ends = tt;
-          back = λ here before. refl;
-          faults = λ is any. (refl, refl);
-        }) (refl, refl)
-        (lawful_at Reading reads among FindRoom RoomShut (next_is ReadAction.FindRoom is)
+        let d = of_reader.does p acts r is (λ e. cc) in
+        stays_goes Reading reads among refl RoomShut s.pipe.job_seat refl (refl, refl)
+        (lawful_at Reading reads among FindRoom RoomShut d.law
         (ap seen_room (sym found ∙ room_found)))
         (finds_shut s (bound bytes Reading) began shut over gone took written acts js ps ss found
-        (tied Reading reads among FindRoom (table ReadAction.FindRoom is (λ e. cc))))
+        (tied Reading reads among FindRoom d.table))
 
     -- it puts bytes, which fit
     put_found : found_put p.piece s ≡ hand_in (length p.piece) (room_in cut) (not shut) (seated ps)
@@ -549,52 +526,43 @@ module _ (bytes client : ℕ) (asked : Option HandleCall) (here : OwnerStage)
     put_works count is fits Waiting found = absurd
         (no_wait (length p.piece) (room s.pipe) s.pipe.is_owner_open s.pipe.owner_seat fits found)
     put_works count is fits (Served seat) found =
+        let d = of_reader.does p acts r is (λ e. cc) in
         let now = tied Reading reads among (PutPiece p.piece)
-        (table (ReadAction.Put count) is (λ e. cc)) in
+        d.table in
         let took_it = (put_is (length p.piece) (room s.pipe) s.pipe.is_owner_open s.pipe.owner_seat
         seat found).0 in
         let act = Put (length p.piece) (waker_in (is_some seat)) in
         pipe_goes Reading reads among
-        refl act (record s.pipe { items = s.pipe.items ++ p.piece; owner_seat = None })
-        (record {
-          pool = refl;
-          nothing = refl;
-          ends = tt;
-          back = λ here before. refl;
-          faults = λ is any. (refl, refl);
-        }) (refl, refl)
-        (lawful_at Reading reads among (PutPiece p.piece) act (next_is (ReadAction.Put count) is)
+        refl act (record s.pipe { items = s.pipe.items ++ p.piece; owner_seat = None }) refl
+        (refl, refl)
+        (lawful_at Reading reads among (PutPiece p.piece) act d.law
         (ap (seen_put (length p.piece)) (sym found ∙ put_found)))
         (puts s (bound bytes Reading) began shut over gone took written
         acts js ps ss p.piece (waker_in (is_some seat)) seat found now) now.flow.passed_is.0
         (takes_it (is_some seat) ∙ ap is_some took_it)
     put_works count is fits Closed found =
+        let d = of_reader.does p acts r is (λ e. cc) in
         let act = Lost (length p.piece) in
-        stays_goes Reading reads among refl act s.pipe.job_seat
-        (record {
-          pool = refl;
-          nothing = refl;
-          ends = tt;
-          back = λ here before. refl;
-          faults = λ is any. (refl, refl);
-        }) (refl, refl)
-        (lawful_at Reading reads among (PutPiece p.piece) act (next_is (ReadAction.Put count) is)
+        stays_goes Reading reads among refl act s.pipe.job_seat refl (refl, refl)
+        (lawful_at Reading reads among (PutPiece p.piece) act d.law
         (ap (seen_put (length p.piece)) (sym found ∙ put_found)))
         (loses s (bound bytes Reading) began shut over gone
         took written acts js ps ss p.piece found (tied Reading reads among (PutPiece p.piece)
-        (table (ReadAction.Put count) is (λ e. cc))))
+        d.table))
 
     -- it closes its end of the pipe
     pub close_works : read_next p.core ≡ ReadAction.Close → Reads (work_of_close p s)
     close_works is =
-        let now = tied Reading reads among CloseEnd (table ReadAction.Close is (λ e. cc)) in
-        closes_goes Reading reads among refl (next_is ReadAction.Close is) now.flow.passed_is.0 now
+        let d = of_reader.does p acts r is (λ e. cc) in
+        let now = tied Reading reads among CloseEnd d.table in
+        closes_goes Reading reads among refl d.law now.flow.passed_is.0 now
 
     -- it puts its result
     pub finish_works : read_next p.core ≡ ReadAction.Finish → Reads (work_of_finish p s)
     finish_works is =
-        let now = tied Reading reads among Finish (table ReadAction.Finish is (λ e. cc)) in
-        finishes_goes Reading reads among p.fault s.left (next_is ReadAction.Finish is) now
+        let d = of_reader.does p acts r is (λ e. cc) in
+        let now = tied Reading reads among Finish d.table in
+        finishes_goes Reading reads among p.fault s.left d.law now
         (λ waker. same_place Reading reads refl (Finished waker) refl refl)
         (λ waker. finishes s Reading (bound bytes Reading) began shut over gone took written acts js
         ps ss waker p.fault r.fault_is tt now)
@@ -603,14 +571,13 @@ module _ (bytes client : ℕ) (asked : Option HandleCall) (here : OwnerStage)
     pub answer_goes : (answer : Answer) → is_answer (action_of p) answer ≡ true
         → Goes (owner_by_parts bytes client asked here (Some s)) cut (event (Answered answer))
     answer_goes answer is =
-        let q = asks p acts answer r is in
-        let next = next_by acts ∙ ap (λ b. job_wake_first b (next_but_wake Reading acts))
-        (sym r.waking ∙ q.a.waking) ∙ q.table in
+        let q = of_reader.asks p acts answer r is in
+        let d = q.1.does in
         answers_goes Reading reads among answer
-        (AskBytes q.most) q.fits next (tied Reading reads among (AskBytes q.most) q.table)
+        (AskBytes q.0) q.1.fits d.law (tied Reading reads among (AskBytes q.0) d.table)
         (same_place Reading reads refl (Answered answer) refl refl)
         (Sessions.answers s (bound bytes Reading) began shut over gone took written acts js ps ss
-        q.most answer q.fits q.table (last_as Reading reads))
+        q.0 answer q.1.fits d.table (last_as Reading reads))
 
   -- ---- the acts of a job that writes, at the session
 
@@ -619,15 +586,6 @@ module _ (bytes client : ℕ) (asked : Option HandleCall) (here : OwnerStage)
 
   module _ (p : WriteProgress) (r : WriteAs p acts) (writing : kind ≡ Writing)
       (among : is_in s.number.serial (jobs_of (own cut)) ≡ true) where
-    writer_table : (now : WriteAction) → write_next p.core ≡ now → (now ≡ WriteAction.Deliver → ⊥)
-        → next_but_wake Writing acts ≡ write_action_as p.piece now
-    writer_table now is other =
-        sym r.next ∙ ap (write_action_as p.piece) (of_writer.awake p now is other).next_is
-
-    writer_next : (now : WriteAction) → write_next p.core ≡ now
-        → next_of_job Writing acts ≡ write_action_as p.piece now
-    writer_next now is = sym (of_writer.action_is p acts r) ∙ ap (write_action_as p.piece) is
-
     -- it looks at the front of the pipe
     piece_found : found_piece s ≡ peek piece (inside cut) (not shut)
     piece_found =
@@ -637,62 +595,39 @@ module _ (bytes client : ℕ) (asked : Option HandleCall) (here : OwnerStage)
     pub peek_works : write_next p.core ≡ WriteAction.Peek → (met : Met (List ℕ))
         → found_piece s ≡ met → Writes (work_at_peek met p s)
     peek_works is (Served found) shows =
-        stays_goes Writing writing among refl (Peeked found) s.pipe.job_seat
-        (record {
-          pool = refl;
-          nothing = refl;
-          ends = tt;
-          back = λ here before. refl;
-          faults = λ is any. (refl, refl);
-        }) (refl, refl)
-        (lawful_at Writing writing among Peek (Peeked found) (writer_next WriteAction.Peek is)
+        let d = of_writer.does p acts r is (λ e. cc) in
+        stays_goes Writing writing among refl (Peeked found) s.pipe.job_seat refl (refl, refl)
+        (lawful_at Writing writing among Peek (Peeked found) d.law
         (ap seen_peek (sym shows ∙ piece_found)))
         (peeks s (bound bytes Writing) began shut over gone took written acts js ps ss found shows
-        (tied Writing writing among Peek (writer_table WriteAction.Peek is (λ e. cc))))
+        (tied Writing writing among Peek d.table))
     peek_works is Waiting shows =
-        stays_goes Writing writing among refl JobParked (Some s.number)
-        (record {
-          pool = refl;
-          nothing = refl;
-          ends = tt;
-          back = λ here before. refl;
-          faults = λ is any. (refl, refl);
-        }) (refl, refl)
-        (lawful_at Writing writing among Peek JobParked (writer_next WriteAction.Peek is)
+        let d = of_writer.does p acts r is (λ e. cc) in
+        stays_goes Writing writing among refl JobParked (Some s.number) refl (refl, refl)
+        (lawful_at Writing writing among Peek JobParked d.law
         (ap seen_peek (sym shows ∙ piece_found)))
         (peek_parks s (bound bytes Writing) began shut over gone took written acts js ps ss shows
-        (writer_table WriteAction.Peek is (λ e. cc)) (last_as Writing writing))
+        d.table (last_as Writing writing))
     peek_works is Closed shows =
-        stays_goes Writing writing among refl Drained s.pipe.job_seat
-        (record {
-          pool = refl;
-          nothing = refl;
-          ends = tt;
-          back = λ here before. refl;
-          faults = λ is any. (refl, refl);
-        }) (refl, refl)
-        (lawful_at Writing writing among Peek Drained (writer_next WriteAction.Peek is)
+        let d = of_writer.does p acts r is (λ e. cc) in
+        stays_goes Writing writing among refl Drained s.pipe.job_seat refl (refl, refl)
+        (lawful_at Writing writing among Peek Drained d.law
         (ap seen_peek (sym shows ∙ piece_found)))
         (drains s (bound bytes Writing) began shut over gone took written acts js ps ss shows
-        (tied Writing writing among Peek (writer_table WriteAction.Peek is (λ e. cc))))
+        (tied Writing writing among Peek d.table))
 
     -- what its writer took leaves the pipe
     pub consume_works : (n : ℕ) → write_next p.core ≡ WriteAction.Consume n
         → Writes (work_of_consume n p s)
     consume_works n is =
+        let d = of_writer.does p acts r is (λ e. cc) in
         let now = tied Writing writing among (Consume n)
-        (writer_table (WriteAction.Consume n) is (λ e. cc)) in
+        d.table in
         let act = TakenOut n (waker_in (is_some s.pipe.owner_seat)) in
         pipe_goes Writing writing
-        among refl act (record s.pipe { items = drop n s.pipe.items; owner_seat = None })
-        (record {
-          pool = refl;
-          nothing = refl;
-          ends = tt;
-          back = λ here before. refl;
-          faults = λ is any. (refl, refl);
-        }) (refl, refl)
-        (lawful_at Writing writing among (Consume n) act (writer_next (WriteAction.Consume n) is)
+        among refl act (record s.pipe { items = drop n s.pipe.items; owner_seat = None }) refl
+        (refl, refl)
+        (lawful_at Writing writing among (Consume n) act d.law
         (ap (λ b. TakenOut n (waker_in b)) (sym t.last.seats.owner)))
         (consumes s (bound bytes Writing) began shut over gone took written
         acts js ps ss n (waker_in (is_some s.pipe.owner_seat)) now) now.flow.written_is.0
@@ -701,18 +636,20 @@ module _ (bytes client : ℕ) (asked : Option HandleCall) (here : OwnerStage)
     -- it closes its end of the pipe
     pub writer_close_works : write_next p.core ≡ WriteAction.Close → Writes (writer_closes p s)
     writer_close_works is =
+        let d = of_writer.does p acts r is (λ e. cc) in
         let now =
-        tied Writing writing among CloseEnd (writer_table WriteAction.Close is (λ e. cc)) in
-        closes_goes Writing writing among refl (writer_next WriteAction.Close is)
+        tied Writing writing among CloseEnd d.table in
+        closes_goes Writing writing among refl d.law
         now.flow.written_is.0 now
 
     -- it puts its result
     pub writer_finish_works : write_next p.core ≡ WriteAction.Finish → Writes (writer_finishes p s)
     writer_finish_works is =
+        let d = of_writer.does p acts r is (λ e. cc) in
         let now =
-        tied Writing writing among Finish (writer_table WriteAction.Finish is (λ e. cc)) in
+        tied Writing writing among Finish d.table in
         finishes_goes Writing
-        writing among (write_fault_of p.core) s.left (writer_next WriteAction.Finish is) now
+        writing among (write_fault_of p.core) s.left d.law now
         (λ waker. same_place Writing writing refl (Finished waker) refl refl)
         (λ waker. finishes s Writing (bound bytes Writing) began shut over gone took written acts js
         ps ss waker (write_fault_of p.core) r.fault_is tt now)
@@ -721,15 +658,13 @@ module _ (bytes client : ℕ) (asked : Option HandleCall) (here : OwnerStage)
     pub writer_answer_goes : (answer : Answer) → is_answer (write_action_of p) answer ≡ true
         → Goes (owner_by_parts bytes client asked here (Some s)) cut (event (Answered answer))
     writer_answer_goes answer is =
-        let q = of_writer.asks p acts answer r is in
-        let next = of_writer.next_by acts ∙ ap (λ b. job_wake_first b (next_but_wake Writing acts))
-        (sym r.waking ∙ q.a.waking) ∙ q.table in
-        let asks_now = write_action_as p.piece q.now in
-        answers_goes Writing
-        writing among answer asks_now q.fits next (tied Writing writing among asks_now q.table)
+        let d = (of_writer.asks p acts answer r is).does in
+        let now = write_action_of p in
+        answers_goes Writing writing among answer now is d.law
+        (tied Writing writing among now d.table)
         (same_place Writing writing refl (Answered answer) refl refl)
-        (writer_answers s (bound bytes Writing) began shut over gone took written acts js ps ss
-        asks_now answer q.fits q.table (last_as Writing writing))
+        (writer_answers s (bound bytes Writing) began shut over gone took written acts js ps ss now
+        answer is d.table (last_as Writing writing))
 
   -- ---- the acts of a job that runs an iterator, at the session
 
@@ -738,15 +673,6 @@ module _ (bytes client : ℕ) (asked : Option HandleCall) (here : OwnerStage)
 
   module _ (p : ItemProgress) (r : ItemAs p acts) (streaming : kind ≡ Streaming)
       (among : is_in s.number.serial (jobs_of (own cut)) ≡ true) where
-    streamer_table : (now : ItemAction) → item_next p.core ≡ now → (now ≡ ItemAction.Deliver → ⊥)
-        → next_but_wake Streaming acts ≡ item_action_as p.item now
-    streamer_table now is other =
-        sym r.next ∙ ap (item_action_as p.item) (of_streamer.awake p now is other).next_is
-
-    streamer_next : (now : ItemAction) → item_next p.core ≡ now
-        → next_of_job Streaming acts ≡ item_action_as p.item now
-    streamer_next now is = sym (of_streamer.action_is p acts r) ∙ ap (item_action_as p.item) is
-
     -- it sends its item
     send_found : found_send s ≡ hand_in 1 (room_in cut) (not shut) (seated ps)
     send_found = handed_in 1
@@ -754,68 +680,53 @@ module _ (bytes client : ℕ) (asked : Option HandleCall) (here : OwnerStage)
     pub send_works : item_next p.core ≡ ItemAction.Send → (met : Met (Option (Unit {0})))
         → found_send s ≡ met → Streams (work_at_send met p s)
     send_works is (Served seat) found =
+        let d = of_streamer.does p acts r is (λ e. cc) in
         let now = tied Streaming streaming among (SendItem p.item)
-        (streamer_table ItemAction.Send is (λ e. cc)) in
+        d.table in
         let took_it =
         (put_is 1 (room s.pipe) s.pipe.is_owner_open s.pipe.owner_seat seat found).0 in
         let act = Put 1 (waker_in (is_some seat)) in
         pipe_goes Streaming streaming among
-        refl act (record s.pipe { items = s.pipe.items ++ p.item ∷ []; owner_seat = None })
-        (record {
-          pool = refl;
-          nothing = refl;
-          ends = tt;
-          back = λ here before. refl;
-          faults = λ is any. (refl, refl);
-        }) (refl, refl)
+        refl act (record s.pipe { items = s.pipe.items ++ p.item ∷ []; owner_seat = None }) refl
+        (refl, refl)
         (lawful_at Streaming streaming among (SendItem p.item) act
-        (streamer_next ItemAction.Send is) (ap (seen_put 1) (sym found ∙ send_found)))
+        d.law (ap (seen_put 1) (sym found ∙ send_found)))
         (sends s (bound bytes Streaming) began shut over gone took written
         acts js ps ss p.item (waker_in (is_some seat)) seat found now) now.flow.passed_is.0
         (takes_it (is_some seat) ∙ ap is_some took_it)
     send_works is Waiting found =
-        stays_goes Streaming streaming among refl JobParked (Some s.number)
-        (record {
-          pool = refl;
-          nothing = refl;
-          ends = tt;
-          back = λ here before. refl;
-          faults = λ is any. (refl, refl);
-        }) (refl, refl)
+        let d = of_streamer.does p acts r is (λ e. cc) in
+        stays_goes Streaming streaming among refl JobParked (Some s.number) refl (refl, refl)
         (lawful_at Streaming streaming among (SendItem p.item) JobParked
-        (streamer_next ItemAction.Send is) (ap (seen_put 1) (sym found ∙ send_found)))
+        d.law (ap (seen_put 1) (sym found ∙ send_found)))
         (send_parks s (bound bytes Streaming) began shut over gone took written acts js ps ss p.item
-        found (streamer_table ItemAction.Send is (λ e. cc)) (last_as Streaming streaming))
+        found d.table (last_as Streaming streaming))
     send_works is Closed found =
-        stays_goes Streaming streaming among refl (Lost 1) s.pipe.job_seat
-        (record {
-          pool = refl;
-          nothing = refl;
-          ends = tt;
-          back = λ here before. refl;
-          faults = λ is any. (refl, refl);
-        }) (refl, refl)
+        let d = of_streamer.does p acts r is (λ e. cc) in
+        stays_goes Streaming streaming among refl (Lost 1) s.pipe.job_seat refl (refl, refl)
         (lawful_at Streaming streaming among (SendItem p.item) (Lost 1)
-        (streamer_next ItemAction.Send is) (ap (seen_put 1) (sym found ∙ send_found)))
+        d.law (ap (seen_put 1) (sym found ∙ send_found)))
         (send_loses s (bound bytes Streaming) began shut over gone took
         written acts js ps ss p.item found (tied Streaming streaming among (SendItem p.item)
-        (streamer_table ItemAction.Send is (λ e. cc))))
+        d.table))
 
     -- it closes its end of the pipe
     pub streamer_close_works : item_next p.core ≡ ItemAction.Close → Streams (streamer_closes p s)
     streamer_close_works is =
+        let d = of_streamer.does p acts r is (λ e. cc) in
         let now = tied Streaming streaming among CloseEnd
-        (streamer_table ItemAction.Close is (λ e. cc)) in
-        closes_goes Streaming streaming among refl (streamer_next ItemAction.Close is)
+        d.table in
+        closes_goes Streaming streaming among refl d.law
         now.flow.passed_is.0 now
 
     -- it puts its result
     pub streamer_finish_works : item_next p.core ≡ ItemAction.Finish
         → Streams (streamer_finishes p s)
     streamer_finish_works is =
+        let d = of_streamer.does p acts r is (λ e. cc) in
         let now =
-        tied Streaming streaming among Finish (streamer_table ItemAction.Finish is (λ e. cc)) in
-        finishes_goes Streaming streaming among None s.left (streamer_next ItemAction.Finish is) now
+        tied Streaming streaming among Finish d.table in
+        finishes_goes Streaming streaming among None s.left d.law now
         (λ waker. same_place Streaming streaming refl (Finished waker) refl refl)
         (λ waker. finishes s Streaming (bound bytes Streaming) began shut over gone took written
         acts js ps ss waker None (sym r.fault_is) tt now)
@@ -825,14 +736,12 @@ module _ (bytes client : ℕ) (asked : Option HandleCall) (here : OwnerStage)
         → Goes (owner_by_parts bytes client asked here (Some s)) cut (event (Answered answer))
     item_answer_goes answer is =
         let q = of_streamer.asks p acts answer r is in
-        let next = of_streamer.next_by acts
-        ∙ ap (λ b. job_wake_first b (next_but_wake Streaming acts)) (sym r.waking ∙ q.a.waking)
-        ∙ q.table in
-        answers_goes Streaming streaming among answer AskItem q.fits next
-        (tied Streaming streaming among AskItem q.table)
+        let d = q.does in
+        answers_goes Streaming streaming among answer AskItem q.fits d.law
+        (tied Streaming streaming among AskItem d.table)
         (same_place Streaming streaming refl (Answered answer) refl refl)
         (item_answers s (bound bytes Streaming) began shut over gone took written acts js ps ss
-        answer q.fits q.table (last_as Streaming streaming))
+        answer q.fits d.table (last_as Streaming streaming))
 
   -- ---- the acts of a job that seeks, at the session
 
@@ -844,10 +753,9 @@ module _ (bytes client : ℕ) (asked : Option HandleCall) (here : OwnerStage)
     -- it puts its result
     pub seek_finish_works : seek_next p.core ≡ SeekAction.Finish → Seeks (seek_finishes p s)
     seek_finish_works is =
-        let now = tied (Seeking p.goal) seeking among Finish (sym r.next
-        ∙ ap seek_action_as (of_seeker.awake p SeekAction.Finish is (λ e. cc)).next_is) in
-        finishes_goes (Seeking p.goal) seeking
-        among p.fault p.place (sym (of_seeker.action_is p acts r) ∙ ap seek_action_as is) now
+        let d = of_seeker.does p acts r is (λ e. cc) in
+        let now = tied (Seeking p.goal) seeking among Finish d.table in
+        finishes_goes (Seeking p.goal) seeking among p.fault p.place d.law now
         (λ waker. same_place (Seeking p.goal) seeking refl (Finished waker) refl refl)
         (λ waker. seek_puts s p.goal (bound bytes (Seeking p.goal)) began shut over gone took
         written acts js ps ss waker p.fault p.place r.fault_is r.place_is now)
@@ -857,14 +765,12 @@ module _ (bytes client : ℕ) (asked : Option HandleCall) (here : OwnerStage)
         → Goes (owner_by_parts bytes client asked here (Some s)) cut (event (Answered answer))
     seek_answer_goes answer is =
         let q = of_seeker.asks p acts answer r is in
-        let now = tied (Seeking p.goal) seeking among AskSeek q.table in
-        let next = of_seeker.next_by p.goal acts
-        ∙ ap (λ b. job_wake_first b (next_but_wake (Seeking p.goal) acts))
-        (sym r.waking ∙ q.a.waking) ∙ q.table in
-        answers_goes (Seeking p.goal) seeking among answer AskSeek q.fits next now
+        let d = q.does in
+        let now = tied (Seeking p.goal) seeking among AskSeek d.table in
+        answers_goes (Seeking p.goal) seeking among answer AskSeek q.fits d.law now
         (same_place (Seeking p.goal) seeking refl (Answered answer) refl refl)
         (seek_answers s p.goal (bound bytes (Seeking p.goal)) began shut over gone took written acts
-        js ps ss answer q.fits q.table now)
+        js ps ss answer q.fits d.table now)
 
   -- ---- the acts of a job that runs an operation, at the session
 
@@ -881,20 +787,11 @@ module _ (bytes client : ℕ) (asked : Option HandleCall) (here : OwnerStage)
         s.result Operating a (has_given_up acts) (has_result acts) came (number acts) rs) e
         (subst (λ any. PlaceBy s.result any acts came rs) operating t.place)
 
-    operation_table : (now : OpAction) → operation_next p.core ≡ now → (now ≡ OpAction.Deliver → ⊥)
-        → next_but_wake Operating acts ≡ operation_action_as now
-    operation_table now is other =
-        sym r.next ∙ ap operation_action_as (of_operator.awake p now is other).next_is
-
-    operation_is : (now : OpAction) → operation_next p.core ≡ now
-        → next_of_job Operating acts ≡ operation_action_as now
-    operation_is now is = sym (of_operator.action_is p acts r) ∙ ap operation_action_as is
-
     -- it puts the result
     pub result_works : operation_next p.core ≡ OpAction.PutResult → Operates (operation_puts p s)
     result_works is =
-        let table = operation_table OpAction.PutResult is (λ e. cc) in
-        let here_now = placed PutResult table in
+        let d = of_operator.does p acts r is (λ e. cc) in
+        let here_now = placed PutResult d.table in
         let empty = results.unfilled s.result (has_given_up acts) (has_result acts) came
         (number acts) rs here_now in
         let woke = result_wakes p.number s in
@@ -903,21 +800,15 @@ module _ (bytes client : ℕ) (asked : Option HandleCall) (here : OwnerStage)
         let act = ResultPut (waker_in woke) in
         keeps_all Operating operating act s.pipe (after_put s.result p.number) s.slot s.left among
         (record {
-          own_is = record {
-            pool = refl;
-            nothing = refl;
-            ends = tt;
-            back = λ here before. refl;
-            faults = λ is any. (refl, refl);
-          };
+          own_is = own_act act refl;
           place = results.filled s.result (has_given_up acts) (has_result acts) came (number acts)
               rs p.number r.number_is here_now;
           lawful =
-              lawful_at Operating operating among PutResult act (operation_is OpAction.PutResult is)
+              lawful_at Operating operating among PutResult act d.law
               (ap (λ b. ResultPut (waker_in b)) (sits ∙ sym here_now.seat));
           session = result_puts s (bound bytes Operating) began shut
               over gone took written acts js ps ss (waker_in woke) (after_put s.result p.number)
-              (tied Operating operating among PutResult table);
+              (tied Operating operating among PutResult d.table);
           ended = λ e. e;
           told = λ e. taken_third (is_some s.pipe.owner_seat) (is_some s.slot.seat)
               (is_some s.result.seat) woke _ sits e;
@@ -927,11 +818,11 @@ module _ (bytes client : ℕ) (asked : Option HandleCall) (here : OwnerStage)
     pub operation_finish_works : operation_next p.core ≡ OpAction.Finish
         → Operates (operation_finishes p s)
     operation_finish_works is =
-        let table = operation_table OpAction.Finish is (λ e. cc) in
-        let now = tied Operating operating among Finish table in
-        finishes_goes Operating operating among None s.left (operation_is OpAction.Finish is) now
+        let d = of_operator.does p acts r is (λ e. cc) in
+        let now = tied Operating operating among Finish d.table in
+        finishes_goes Operating operating among None s.left d.law now
         (λ waker. results.finished s.result (has_given_up acts) (has_result acts) came (number acts)
-        rs (placed Finish table))
+        rs (placed Finish d.table))
         (λ waker. finishes s Operating (bound bytes Operating) began shut over gone took written
         acts js ps ss waker None (sym r.fault_is) tt now)
 
@@ -940,18 +831,16 @@ module _ (bytes client : ℕ) (asked : Option HandleCall) (here : OwnerStage)
         → Goes (owner_by_parts bytes client asked here (Some s)) cut (event (Answered answer))
     operation_answer_goes answer is =
         let q = of_operator.asks p acts answer r is in
-        let now = tied Operating operating among AskResult q.table in
-        let next = of_operator.next_by acts
-        ∙ ap (λ b. job_wake_first b (next_but_wake Operating acts)) (sym r.waking ∙ q.a.waking)
-        ∙ q.table in
-        answers_goes Operating operating among answer AskResult q.fits next now
+        let d = q.does in
+        let now = tied Operating operating among AskResult d.table in
+        answers_goes Operating operating among answer AskResult q.fits d.law now
         (subst (λ a. PlaceAs s.result Operating
         a (has_given_up acts) (has_result acts) came (number (Answered answer ∷ acts)) rs)
-        (sym (ap (λ a. job_next_after_answer a answer) q.table))
+        (sym (ap (λ a. job_next_after_answer a answer) d.table))
         (results.answered s.result (has_given_up acts) (has_result acts) came (number acts) rs
-        (number (Answered answer ∷ acts)) (placed AskResult q.table)))
+        (number (Answered answer ∷ acts)) (placed AskResult d.table)))
         (operation_answers s (bound bytes Operating) began shut over gone took written acts js ps ss
-        answer q.fits q.table now)
+        answer q.fits d.table now)
 
   -- ---- what any does
 
@@ -970,13 +859,7 @@ module _ (bytes client : ℕ) (asked : Option HandleCall) (here : OwnerStage)
       ap (λ c. is_some (waker_out_of c s.slot.seat)) empty in
       keeps_all kind refl (GaveUp (waker_in woke)) s.pipe s.result
       (slot_without_job s.slot.content s.slot.seat) s.left among (record {
-        own_is = record {
-          pool = refl;
-          nothing = refl;
-          ends = tt;
-          back = λ here before. refl;
-          faults = λ is any. (refl, refl);
-        };
+        own_is = own_act (GaveUp (waker_in woke)) refl;
         lawful = (dropped, goes, ap waker_in (sits ∙ sym t.last.seats.slot));
         place = results.given_up s.result (has_given_up acts) (has_result acts) came (number acts)
             rs kind (next_but_wake kind acts) t.place;

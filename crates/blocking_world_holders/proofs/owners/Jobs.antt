@@ -15,19 +15,18 @@ use Rattle.blocking_world_holders.proofs.Words.{OpProgress, Owner, Worked, opera
 use Rattle.blocking_world_holders.proofs.Words.{read_as, read_in, seek_as, seek_in, stream_as}
 use Rattle.blocking_world_holders.proofs.Words.{stream_in, worked, worked_by, write_as, write_in}
 use Rattle.blocking_world_holders.proofs.Words.{OfBytes, OfItems, through, ReadProgress, ReadAs}
-use Rattle.blocking_world_holders.proofs.Words.{read_action_as, SeekProgress, SeekAs, JobAs}
-use Rattle.blocking_world_holders.proofs.Words.{Session, Work, closing_wakes, finish_wakes, fits_in}
-use Rattle.blocking_world_holders.proofs.Words.{found_piece, found_put, found_room, found_send}
-use Rattle.blocking_world_holders.proofs.Words.{holds, operation_works, result_wakes, seek_works}
+use Rattle.blocking_world_holders.proofs.Words.{SeekProgress, SeekAs, JobAs, Session, Work}
+use Rattle.blocking_world_holders.proofs.Words.{closing_wakes, finish_wakes, fits_in, found_piece}
+use Rattle.blocking_world_holders.proofs.Words.{found_put, found_room, found_send, holds}
+use Rattle.blocking_world_holders.proofs.Words.{operation_works, result_wakes, seek_works}
 use Rattle.blocking_world_holders.proofs.Words.{streamer_closes, streamer_finishes, streamer_works}
 use Rattle.blocking_world_holders.proofs.Words.{work_at_peek, work_at_put, work_at_room}
 use Rattle.blocking_world_holders.proofs.Words.{work_at_send, work_by, work_of_close}
 use Rattle.blocking_world_holders.proofs.Words.{work_of_consume, work_of_finish, writer_closes}
 use Rattle.blocking_world_holders.proofs.Words.{writer_finishes, writer_works, ItemAs, ItemProgress}
-use Rattle.blocking_world_holders.proofs.Words.{item_action_as, WriteProgress, WriteAs}
-use Rattle.blocking_world_holders.proofs.Words.{write_action_as, write_fault_of}
+use Rattle.blocking_world_holders.proofs.Words.{WriteProgress, WriteAs, write_fault_of}
 use Rattle.blocking_world_holders.proofs.owners.Goods.{through_some}
-use Rattle.blocking_world_holders.proofs.owners.Polls.{value_of}
+use Rattle.blocking_world_holders.proofs.owners.Polls.{moved}
 use Rattle.blocking_world_holders.proofs.owners.ReadSessions.{some_room}
 use Rattle.blocking_world_holders.proofs.owners.WriteSessions.{some_piece}
 use Rattle.blocking_world_holders.proofs.owners.ReadJobs as of_reader
@@ -56,11 +55,6 @@ nothing_first (suc n) (x ∷ xs) some e = absurd (cc)
 no_more_than : (n : ℕ) (items : List ℕ) → length (take n items) ≤ n
 no_more_than n items = let many = length-take n items in omega (arith, many)
 
--- what is done is what was found to do
-moved : {J : Type 0} (P : Work J → Type 0) (made work : Work J) → Some made ≡ Some work → P made
-    → P work
-moved P made work e so = subst P (ap (value_of made) e) so
-
 -- ---- a job that reads, at its session
 
 module _ (p : ReadProgress) (acts : List Act) (s : Session) (r : ReadAs p acts) where
@@ -72,16 +66,15 @@ module _ (p : ReadProgress) (acts : List Act) (s : Session) (r : ReadAs p acts) 
   room_on is (Served zero) found =
       absurd (let some = (some_room (room s.pipe) 0 s.pipe.is_owner_open found).1 in omega arith)
   room_on is (Served (suc n)) found =
-      of_reader.meets p acts ReadAction.FindRoom
-      (ReadAction.Read (min (suc n) 65536)) false (ReadAnswer.Free (suc n)) (RoomFree (suc n)) r
-      (of_reader.awake p ReadAction.FindRoom is (λ e. cc)) refl refl refl refl
+      of_reader.meets p acts (ReadAction.Read (min (suc n) 65536)) false (ReadAnswer.Free (suc n))
+      (RoomFree (suc n)) (of_reader.does p acts r is (λ e. cc)) refl refl refl r.fault_is
   room_on is Waiting found =
-      let a = of_reader.awake p ReadAction.FindRoom is (λ e. cc) in
-      of_reader.meets p acts ReadAction.FindRoom ReadAction.FindRoom false ReadAnswer.Parked
-      JobParked r a refl (ap (read_action_as p.piece) (sym a.next_is) ∙ r.next) refl refl
+      let d = of_reader.does p acts r is (λ e. cc) in
+      of_reader.meets p acts ReadAction.FindRoom false ReadAnswer.Parked JobParked d refl
+      (sym d.table) refl r.fault_is
   room_on is Closed found =
-      of_reader.meets p acts ReadAction.FindRoom ReadAction.Close false ReadAnswer.Shut RoomShut r
-      (of_reader.awake p ReadAction.FindRoom is (λ e. cc)) refl refl refl refl
+      of_reader.meets p acts ReadAction.Close false ReadAnswer.Shut RoomShut
+      (of_reader.does p acts r is (λ e. cc)) refl refl refl r.fault_is
 
   put_on : (count : ℕ) → read_next p.core ≡ ReadAction.Put count → fits_in p.piece s ≡ true
       → (met : Met (Option (Unit {0}))) → found_put p.piece s ≡ met → ReadOn (work_at_put met p s)
@@ -89,13 +82,12 @@ module _ (p : ReadProgress) (acts : List Act) (s : Session) (r : ReadAs p acts) 
       (no_wait (length p.piece) (room s.pipe) s.pipe.is_owner_open s.pipe.owner_seat fits found)
   put_on count is fits (Served seat) found =
       let woke = is_some seat in
-      of_reader.meets p acts (ReadAction.Put count)
-      ReadAction.FindRoom woke (ReadAnswer.Put woke) (Put (length p.piece) (waker_in woke)) r
-      (of_reader.awake p (ReadAction.Put count) is (λ e. cc)) refl refl (taken_is woke) refl
+      of_reader.meets p acts ReadAction.FindRoom woke (ReadAnswer.Put woke)
+      (Put (length p.piece) (waker_in woke)) (of_reader.does p acts r is (λ e. cc)) refl refl
+      (taken_is woke) r.fault_is
   put_on count is fits Closed found =
-      of_reader.meets p acts (ReadAction.Put count) ReadAction.Close false ReadAnswer.Lost
-      (Lost (length p.piece)) r (of_reader.awake p (ReadAction.Put count) is (λ e. cc)) refl
-      refl refl refl
+      of_reader.meets p acts ReadAction.Close false ReadAnswer.Lost (Lost (length p.piece))
+      (of_reader.does p acts r is (λ e. cc)) refl refl refl r.fault_is
 
   -- what it does next there
   reads_on : (a : ReadAction) → read_next p.core ≡ a → (work : Work ReadProgress)
@@ -112,14 +104,14 @@ module _ (p : ReadProgress) (acts : List Act) (s : Session) (r : ReadAs p acts) 
       by_fit false fits does = absurd (cc)
   reads_on ReadAction.Close is work does =
       let woke = closing_wakes s in
-      moved ReadOn (work_of_close p s) work does (of_reader.meets p acts ReadAction.Close
-      ReadAction.Finish woke (ReadAnswer.Closed woke) (JobClosed (waker_in woke)) r
-      (of_reader.awake p ReadAction.Close is (λ e. cc)) refl refl (taken_is woke) refl)
+      moved ReadOn (work_of_close p s) work does (of_reader.meets p acts
+      ReadAction.Finish woke (ReadAnswer.Closed woke) (JobClosed (waker_in woke))
+      (of_reader.does p acts r is (λ e. cc)) refl refl (taken_is woke) r.fault_is)
   reads_on ReadAction.Finish is work does =
       let woke = finish_wakes p.fault s in
-      moved ReadOn (work_of_finish p s) work does (of_reader.meets p acts ReadAction.Finish
-      ReadAction.Done woke (ReadAnswer.Finished woke) (Finished (waker_in woke)) r
-      (of_reader.awake p ReadAction.Finish is (λ e. cc)) refl refl (taken_is woke) refl)
+      moved ReadOn (work_of_finish p s) work does (of_reader.meets p acts
+      ReadAction.Done woke (ReadAnswer.Finished woke) (Finished (waker_in woke))
+      (of_reader.does p acts r is (λ e. cc)) refl refl (taken_is woke) r.fault_is)
   reads_on _ is work does = absurd (cc)
 
 -- ---- a job that writes, at its session
@@ -132,16 +124,16 @@ module _ (p : WriteProgress) (acts : List Act) (s : Session) (r : WriteAs p acts
       → WriteOn (work_at_peek met p s)
   peek_on is (Served found) shows =
       let some = some_piece piece s.pipe.items s.pipe.is_owner_open found shows in
-      of_writer.meets_piece p acts found r (of_writer.awake p WriteAction.Peek is (λ e. cc))
+      of_writer.meets_piece p acts found r is
       (λ none. some.1 (nothing_first piece s.pipe.items (omega arith) (sym some.0 ∙ none)))
       (subst (λ l. length l ≤ piece) (sym some.0) (no_more_than piece s.pipe.items))
   peek_on is Waiting shows =
-      let a = of_writer.awake p WriteAction.Peek is (λ e. cc) in
-      of_writer.meets p acts WriteAction.Peek WriteAction.Peek false WriteAnswer.Parked JobParked r
-      a refl refl (ap (write_action_as p.piece) (sym a.next_is) ∙ r.next) tt refl refl
+      let d = of_writer.does p acts r is (λ e. cc) in
+      of_writer.meets p acts WriteAction.Peek false WriteAnswer.Parked JobParked d refl
+      (sym d.table) tt refl (of_writer.kept p acts r)
   peek_on is Closed shows =
-      of_writer.meets p acts WriteAction.Peek WriteAction.Flush false WriteAnswer.Drained Drained r
-      (of_writer.awake p WriteAction.Peek is (λ e. cc)) refl refl refl tt refl refl
+      of_writer.meets p acts WriteAction.Flush false WriteAnswer.Drained Drained
+      (of_writer.does p acts r is (λ e. cc)) refl refl tt refl (of_writer.kept p acts r)
 
   -- what it does next there
   writes_on : (a : WriteAction) → write_next p.core ≡ a → (work : Work WriteProgress)
@@ -155,22 +147,22 @@ module _ (p : WriteProgress) (acts : List Act) (s : Session) (r : WriteAs p acts
       by_hold true does =
           let woke = closing_wakes s in
           moved WriteOn (work_of_consume count p s)
-          work does (of_writer.meets p acts (WriteAction.Consume count) WriteAction.Peek woke
-          (WriteAnswer.Consumed woke) (TakenOut count (waker_in woke)) r (of_writer.awake p
-          (WriteAction.Consume count) is (λ e. cc)) refl refl refl tt (taken_is woke) refl)
+          work does (of_writer.meets p acts WriteAction.Peek woke (WriteAnswer.Consumed woke)
+          (TakenOut count (waker_in woke)) (of_writer.does p acts r is (λ e. cc)) refl refl tt
+          (taken_is woke) (of_writer.kept p acts r))
       by_hold false does = absurd (cc)
   writes_on WriteAction.Close is work does =
       let woke = closing_wakes s in
-      moved WriteOn (writer_closes p s) work does (of_writer.meets p acts WriteAction.Close
+      moved WriteOn (writer_closes p s) work does (of_writer.meets p acts
       WriteAction.Finish woke (WriteAnswer.Closed woke) (JobClosed (waker_in woke))
-      r (of_writer.awake p WriteAction.Close is (λ e. cc)) refl refl refl tt (taken_is woke)
-      refl)
+      (of_writer.does p acts r is (λ e. cc)) refl refl tt (taken_is woke)
+      (of_writer.kept p acts r))
   writes_on WriteAction.Finish is work does =
       let woke = finish_wakes (write_fault_of p.core) s in
-      moved WriteOn (writer_finishes p s) work does (of_writer.meets p acts WriteAction.Finish
+      moved WriteOn (writer_finishes p s) work does (of_writer.meets p acts
       WriteAction.Done woke (WriteAnswer.Finished woke) (Finished (waker_in woke))
-      r (of_writer.awake p WriteAction.Finish is (λ e. cc)) refl refl refl tt (taken_is woke)
-      refl)
+      (of_writer.does p acts r is (λ e. cc)) refl refl tt (taken_is woke)
+      (of_writer.kept p acts r))
   writes_on _ is work does = absurd (cc)
 
 -- ---- a job that runs an iterator, at its session
@@ -183,16 +175,15 @@ module _ (p : ItemProgress) (acts : List Act) (s : Session) (r : ItemAs p acts) 
       → found_send s ≡ met → StreamOn (work_at_send met p s)
   send_on is (Served seat) found =
       let woke = is_some seat in
-      of_streamer.meets p acts ItemAction.Send ItemAction.Next woke (ItemAnswer.Sent woke)
-      (Put 1 (waker_in woke)) r (of_streamer.awake p ItemAction.Send is (λ e. cc)) refl refl
-      (taken_is woke) refl
+      of_streamer.meets p acts ItemAction.Next woke (ItemAnswer.Sent woke) (Put 1 (waker_in woke))
+      (of_streamer.does p acts r is (λ e. cc)) refl refl (taken_is woke) r.fault_is
   send_on is Waiting found =
-      let a = of_streamer.awake p ItemAction.Send is (λ e. cc) in
-      of_streamer.meets p acts ItemAction.Send ItemAction.Send false ItemAnswer.Parked JobParked r a
-      refl (ap (item_action_as p.item) (sym a.next_is) ∙ r.next) refl refl
+      let d = of_streamer.does p acts r is (λ e. cc) in
+      of_streamer.meets p acts ItemAction.Send false ItemAnswer.Parked JobParked d refl
+      (sym d.table) refl r.fault_is
   send_on is Closed found =
-      of_streamer.meets p acts ItemAction.Send ItemAction.Close false ItemAnswer.Shut (Lost 1) r
-      (of_streamer.awake p ItemAction.Send is (λ e. cc)) refl refl refl refl
+      of_streamer.meets p acts ItemAction.Close false ItemAnswer.Shut (Lost 1)
+      (of_streamer.does p acts r is (λ e. cc)) refl refl refl r.fault_is
 
   -- what it does next there
   streams_on : (a : ItemAction) → item_next p.core ≡ a → (work : Work ItemProgress)
@@ -201,14 +192,14 @@ module _ (p : ItemProgress) (acts : List Act) (s : Session) (r : ItemAs p acts) 
       moved StreamOn (work_at_send (found_send s) p s) work does (send_on is (found_send s) refl)
   streams_on ItemAction.Close is work does =
       let woke = closing_wakes s in
-      moved StreamOn (streamer_closes p s) work does (of_streamer.meets p acts ItemAction.Close
-      ItemAction.Finish woke (ItemAnswer.Closed woke) (JobClosed (waker_in woke)) r
-      (of_streamer.awake p ItemAction.Close is (λ e. cc)) refl refl (taken_is woke) refl)
+      moved StreamOn (streamer_closes p s) work does (of_streamer.meets p acts
+      ItemAction.Finish woke (ItemAnswer.Closed woke) (JobClosed (waker_in woke))
+      (of_streamer.does p acts r is (λ e. cc)) refl refl (taken_is woke) r.fault_is)
   streams_on ItemAction.Finish is work does =
       let woke = finish_wakes None s in
-      moved StreamOn (streamer_finishes p s) work does (of_streamer.meets p acts ItemAction.Finish
-      ItemAction.Done woke (ItemAnswer.Finished woke) (Finished (waker_in woke)) r
-      (of_streamer.awake p ItemAction.Finish is (λ e. cc)) refl refl (taken_is woke) refl)
+      moved StreamOn (streamer_finishes p s) work does (of_streamer.meets p acts
+      ItemAction.Done woke (ItemAnswer.Finished woke) (Finished (waker_in woke))
+      (of_streamer.does p acts r is (λ e. cc)) refl refl (taken_is woke) r.fault_is)
   streams_on _ is work does = absurd (cc)
 
 -- ---- a job that seeks, at its session
@@ -219,10 +210,10 @@ seeks_on : (p : SeekProgress) (acts : List Act) (s : Session) → SeekAs p acts 
     → SeekAs work.job (work.act ∷ acts)
 seeks_on p acts s r SeekAction.Finish is work does =
     let woke = finish_wakes p.fault s in
-    subst (λ (w : Work SeekProgress). SeekAs w.job (w.act ∷ acts)) (ap (value_of work) does)
-    (of_seeker.meets p acts SeekAction.Finish SeekAction.Done woke (SeekAnswer.Finished woke)
-    (Finished (waker_in woke)) r (of_seeker.awake p SeekAction.Finish is (λ e. cc)) refl refl
-    (taken_is woke) refl refl)
+    moved (λ (w : Work SeekProgress). SeekAs w.job (w.act ∷ acts)) _ work does
+    (of_seeker.meets p acts SeekAction.Done woke (SeekAnswer.Finished woke)
+    (Finished (waker_in woke)) (of_seeker.does p acts r is (λ e. cc)) refl refl (taken_is woke)
+    r.fault_is r.place_is)
 seeks_on p acts s r _ is work does = absurd (cc)
 
 -- ---- a job that runs an operation, at its session
@@ -233,31 +224,35 @@ operates_on : (p : OpProgress) (acts : List Act) (s : Session) → OperationAs p
     → OperationAs work.job (work.act ∷ acts)
 operates_on p acts s r OpAction.PutResult is work does =
     let woke = result_wakes p.number s in
-    subst (λ (w : Work OpProgress). OperationAs w.job (w.act ∷ acts)) (ap (value_of work) does)
-    (of_operator.meets p acts OpAction.PutResult OpAction.Finish woke (OpAnswer.ResultPut woke)
-    (ResultPut (waker_in woke)) r (of_operator.awake p OpAction.PutResult is (λ e. cc)) refl
-    refl (taken_is woke) refl refl)
+    moved (λ (w : Work OpProgress). OperationAs w.job (w.act ∷ acts)) _ work does
+    (of_operator.meets p acts OpAction.Finish woke (OpAnswer.ResultPut woke)
+    (ResultPut (waker_in woke)) (of_operator.does p acts r is (λ e. cc)) refl refl (taken_is woke)
+    r.fault_is r.number_is)
 operates_on p acts s r OpAction.Finish is work does =
     let woke = finish_wakes None s in
-    subst (λ (w : Work OpProgress). OperationAs w.job (w.act ∷ acts)) (ap (value_of work) does)
-    (of_operator.meets p acts OpAction.Finish OpAction.Done woke (OpAnswer.Finished woke)
-    (Finished (waker_in woke)) r (of_operator.awake p OpAction.Finish is (λ e. cc)) refl refl
-    (taken_is woke) refl refl)
+    moved (λ (w : Work OpProgress). OperationAs w.job (w.act ∷ acts)) _ work does
+    (of_operator.meets p acts OpAction.Done woke (OpAnswer.Finished woke)
+    (Finished (waker_in woke)) (of_operator.does p acts r is (λ e. cc)) refl refl (taken_is woke)
+    r.fault_is r.number_is)
 operates_on p acts s r _ is work does = absurd (cc)
 
 -- ---- a job of an owner
 
+-- how far a job is that had done this before
+abbrev IsAt : List Act → Worked → Type 0
+IsAt acts done = JobAs done.job (done.act ∷ acts)
+
 -- what an act at a session leaves of a job, if there is one
 at_work : (J : Type 0) (of : J → SessionJob) (acts : List Act) (owner : Owner) (o : Option (Work J))
     → ((work : Work J) → o ≡ Some work → JobAs (of work.job) (work.act ∷ acts))
-    → (done : Worked) → worked_by of o owner ≡ Some done → JobAs done.job (done.act ∷ acts)
+    → (done : Worked) → worked_by of o owner ≡ Some done → IsAt acts done
 at_work J of acts owner None so done does = absurd (cc)
 at_work J of acts owner (Some work) so done does =
-    subst (λ (d : Worked). JobAs d.job (d.act ∷ acts)) (ap (value_of done) does) (so work refl)
+    moved (IsAt acts) _ done does (so work refl)
 
 read_goes : (p : ReadProgress) (acts : List Act) (last : Option Session) (owner : Owner)
     → ReadAs p acts → (a : ReadAction) → read_next p.core ≡ a
-    → (done : Worked) → read_in a last p owner ≡ Some done → JobAs done.job (done.act ∷ acts)
+    → (done : Worked) → read_in a last p owner ≡ Some done → IsAt acts done
 read_goes p acts None owner r a is done does = absurd (cc)
 read_goes p acts (Some s) owner r a is done does = at_work ReadProgress SessionJob.Read
     acts owner (through OfBytes s.goods (work_by a p s)) (λ work e. reads_on p acts s r a is work
@@ -265,7 +260,7 @@ read_goes p acts (Some s) owner r a is done does = at_work ReadProgress SessionJ
 
 write_goes : (p : WriteProgress) (acts : List Act) (last : Option Session) (owner : Owner)
     → WriteAs p acts → (a : WriteAction) → write_next p.core ≡ a
-    → (done : Worked) → write_in a last p owner ≡ Some done → JobAs done.job (done.act ∷ acts)
+    → (done : Worked) → write_in a last p owner ≡ Some done → IsAt acts done
 write_goes p acts None owner r a is done does = absurd (cc)
 write_goes p acts (Some s) owner r a is done does = at_work WriteProgress SessionJob.Write acts
     owner (through OfBytes s.goods (writer_works a p s)) (λ work e. writes_on p acts s r a is work
@@ -273,7 +268,7 @@ write_goes p acts (Some s) owner r a is done does = at_work WriteProgress Sessio
 
 stream_goes : (p : ItemProgress) (acts : List Act) (last : Option Session) (owner : Owner)
     → ItemAs p acts → (a : ItemAction) → item_next p.core ≡ a
-    → (done : Worked) → stream_in a last p owner ≡ Some done → JobAs done.job (done.act ∷ acts)
+    → (done : Worked) → stream_in a last p owner ≡ Some done → IsAt acts done
 stream_goes p acts None owner r a is done does = absurd (cc)
 stream_goes p acts (Some s) owner r a is done does =
     at_work ItemProgress SessionJob.Items acts owner
@@ -282,14 +277,14 @@ stream_goes p acts (Some s) owner r a is done does =
 
 seek_goes : (p : SeekProgress) (acts : List Act) (last : Option Session) (owner : Owner)
     → SeekAs p acts → (a : SeekAction) → seek_next p.core ≡ a
-    → (done : Worked) → seek_in a last p owner ≡ Some done → JobAs done.job (done.act ∷ acts)
+    → (done : Worked) → seek_in a last p owner ≡ Some done → IsAt acts done
 seek_goes p acts None owner r a is done does = absurd (cc)
 seek_goes p acts (Some s) owner r a is done does = at_work SeekProgress SessionJob.Seek acts owner
     (seek_works a p s) (λ work e. seeks_on p acts s r a is work e) done does
 
 operate_goes : (p : OpProgress) (acts : List Act) (last : Option Session) (owner : Owner)
     → OperationAs p acts → (a : OpAction) → operation_next p.core ≡ a
-    → (done : Worked) → operate_in a last p owner ≡ Some done → JobAs done.job (done.act ∷ acts)
+    → (done : Worked) → operate_in a last p owner ≡ Some done → IsAt acts done
 operate_goes p acts None owner r a is done does = absurd (cc)
 operate_goes p acts (Some s) owner r a is done does = at_work OpProgress SessionJob.Operate acts
     owner (operation_works a p s) (λ work e. operates_on p acts s r a is work e) done does
@@ -299,36 +294,27 @@ pub worked_on : (p : SessionJob) (acts : List Act) (owner : Owner) (done : Worke
     → worked p owner ≡ Some done → JobAs done.job (done.act ∷ acts)
 worked_on (SessionJob.Read p) acts owner done r does = by (read_next p.core) refl does
   where
-    by : (a : ReadAction) → read_next p.core ≡ a → read_as a p owner ≡ Some done
-        → JobAs done.job (done.act ∷ acts)
-    by ReadAction.Deliver is does = subst (λ (d : Worked). JobAs d.job (d.act ∷ acts))
-        (ap (value_of done) does) (of_reader.wakes p acts r is)
+    by : (a : ReadAction) → read_next p.core ≡ a → read_as a p owner ≡ Some done → IsAt acts done
+    by ReadAction.Deliver is does = moved (IsAt acts) _ done does (of_reader.wakes p acts r is)
     by a is does = read_goes p acts owner.session owner r a is done does
 worked_on (SessionJob.Write p) acts owner done r does = by (write_next p.core) refl does
   where
-    by : (a : WriteAction) → write_next p.core ≡ a → write_as a p owner ≡ Some done
-        → JobAs done.job (done.act ∷ acts)
-    by WriteAction.Deliver is does = subst (λ (d : Worked). JobAs d.job (d.act ∷ acts))
-        (ap (value_of done) does) (of_writer.wakes p acts r is)
+    by : (a : WriteAction) → write_next p.core ≡ a → write_as a p owner ≡ Some done → IsAt acts done
+    by WriteAction.Deliver is does = moved (IsAt acts) _ done does (of_writer.wakes p acts r is)
     by a is does = write_goes p acts owner.session owner r a is done does
 worked_on (SessionJob.Items p) acts owner done r does = by (item_next p.core) refl does
   where
-    by : (a : ItemAction) → item_next p.core ≡ a → stream_as a p owner ≡ Some done
-        → JobAs done.job (done.act ∷ acts)
-    by ItemAction.Deliver is does = subst (λ (d : Worked). JobAs d.job (d.act ∷ acts))
-        (ap (value_of done) does) (of_streamer.wakes p acts r is)
+    by : (a : ItemAction) → item_next p.core ≡ a → stream_as a p owner ≡ Some done → IsAt acts done
+    by ItemAction.Deliver is does = moved (IsAt acts) _ done does (of_streamer.wakes p acts r is)
     by a is does = stream_goes p acts owner.session owner r a is done does
 worked_on (SessionJob.Seek p) acts owner done r does = by (seek_next p.core) refl does
   where
-    by : (a : SeekAction) → seek_next p.core ≡ a → seek_as a p owner ≡ Some done
-        → JobAs done.job (done.act ∷ acts)
-    by SeekAction.Deliver is does = subst (λ (d : Worked). JobAs d.job (d.act ∷ acts))
-        (ap (value_of done) does) (of_seeker.wakes p acts r is)
+    by : (a : SeekAction) → seek_next p.core ≡ a → seek_as a p owner ≡ Some done → IsAt acts done
+    by SeekAction.Deliver is does = moved (IsAt acts) _ done does (of_seeker.wakes p acts r is)
     by a is does = seek_goes p acts owner.session owner r a is done does
 worked_on (SessionJob.Operate p) acts owner done r does = by (operation_next p.core) refl does
   where
     by : (a : OpAction) → operation_next p.core ≡ a → operate_as a p owner ≡ Some done
-        → JobAs done.job (done.act ∷ acts)
-    by OpAction.Deliver is does = subst (λ (d : Worked). JobAs d.job (d.act ∷ acts))
-        (ap (value_of done) does) (of_operator.wakes p acts r is)
+        → IsAt acts done
+    by OpAction.Deliver is does = moved (IsAt acts) _ done does (of_operator.wakes p acts r is)
     by a is does = operate_goes p acts owner.session owner r a is done does

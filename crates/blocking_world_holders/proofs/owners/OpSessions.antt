@@ -4,28 +4,12 @@ use Rattle.std.proofs.Common.{◌≡◌, ℕ, List, ◌∷◌, Bool, true, refl,
 use Rattle.blocking_world_holders.proofs.Types.{Act, Answered, ResultPut, HolderWaker, Answer}
 use Rattle.blocking_world_holders.proofs.Types.{Number}
 use Rattle.blocking_world_holders.proofs.Words.{Slot, AskResult, Operating, PutResult, fault}
-use Rattle.blocking_world_holders.proofs.Words.{has_closed, has_finished, has_given_up, is_answer}
+use Rattle.blocking_world_holders.proofs.Words.{has_finished, has_given_up, is_answer}
 use Rattle.blocking_world_holders.proofs.Words.{job_next_after_answer as next_after_answer}
-use Rattle.blocking_world_holders.proofs.Words.{next_but_wake, gave, peeked, taken, SeenSession}
-use Rattle.blocking_world_holders.proofs.Words.{PlainFlow, SessionAs, Session}
+use Rattle.blocking_world_holders.proofs.Words.{next_but_wake, SeenSession, SessionAs, Session}
 use Rattle.blocking_world_holders.proofs.owners.ReadSessions.{At, tied_at, unseated, going, still}
 use Rattle.blocking_world_holders.proofs.owners.SeekSessions.{plain_answer, counts_none}
-
--- nothing went through the pipe, whatever is kept, and whatever stands in the place of the result
-plain_with : (s : Session) (kept : ℕ) (result : Slot ℕ (Unit {0})) (took accepted : List ℕ)
-    (closed : Bool) (given found written : List ℕ)
-    → PlainFlow s took accepted closed given found written
-    → PlainFlow (record s { item = kept; result = result }) took accepted closed given found written
-plain_with s kept result took accepted closed given found written t = record {
-  closed_is = t.closed_is;
-  inside = t.inside;
-  unseated = t.unseated;
-  ungot = t.ungot;
-  unfilled = t.unfilled;
-  ungiven = t.ungiven;
-  unfound = t.unfound;
-  unwritten = t.unwritten;
-}
+use Rattle.blocking_world_holders.proofs.owners.Drains.{lent_with, plain_still}
 
 module _ (s : Session) (capacity : ℕ) (last : Option SeenSession) (shut back dropped : Bool)
     (took accepted : List ℕ) (acts : List Act) (js ps ss : Bool) where
@@ -36,30 +20,10 @@ module _ (s : Session) (capacity : ℕ) (last : Option SeenSession) (shut back d
   pub kept_with : (kept : ℕ) (result : Slot ℕ (Unit {0})) → Tied s acts
       → Tied (record s { item = kept; result = result }) acts
   kept_with kept result t = record {
-    lent = record {
-      begun = t.lent.begun;
-      goods = t.lent.goods;
-      some = t.lent.some;
-      holds = t.lent.holds;
-      within = t.lent.within;
-      shut_is = t.lent.shut_is;
-    };
-    flow = record {
-      plain = plain_with s kept result took accepted (has_closed acts) (gave acts) (peeked acts)
-          (taken acts) t.flow.plain;
-      next_is = t.flow.next_is;
-    };
+    lent = lent_with s t.lent t.lent.within;
+    flow = record { plain = plain_still s t.flow.plain; next_is = t.flow.next_is };
     result = t.result;
-    seats = record {
-      job = t.seats.job;
-      owner = t.seats.owner;
-      slot = t.seats.slot;
-      reason = record {
-        job = t.seats.reason.job;
-        owner = t.seats.reason.owner;
-        slot = t.seats.reason.slot;
-      };
-    };
+    seats = assumption;
   }
 
   -- its operation gives a number
@@ -91,28 +55,8 @@ module _ (s : Session) (capacity : ℕ) (last : Option SeenSession) (shut back d
       → At s Operating capacity last shut back dropped took accepted acts js ps ss PutResult
       → Tied (record s { result = result }) (ResultPut waker ∷ acts)
   result_puts waker result t = record {
-    lent = record {
-      begun = t.lent.begun;
-      goods = t.lent.goods;
-      some = t.lent.some;
-      holds = t.lent.holds;
-      within = t.lent.within;
-      shut_is = t.lent.shut_is;
-    };
-    flow = record {
-      plain = plain_with s s.item result took accepted (has_closed acts) (gave acts) (peeked acts)
-          (taken acts) t.flow.plain;
-      next_is = tt;
-    };
+    lent = lent_with s t.lent t.lent.within;
+    flow = record { plain = plain_still s t.flow.plain; next_is = tt };
     result = t.result;
-    seats = record {
-      job = t.seats.job;
-      owner = t.seats.owner;
-      slot = t.seats.slot;
-      reason = record {
-        job = t.seats.reason.job;
-        owner = t.seats.reason.owner;
-        slot = t.seats.reason.slot;
-      };
-    };
+    seats = assumption;
   }

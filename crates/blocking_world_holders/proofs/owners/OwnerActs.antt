@@ -150,7 +150,8 @@ module _ (bytes client : ℕ) (asked : Option HandleCall) (p : OwnerMachine ℕ)
     fits = fits;
   }
 
-  -- what an act with which its poll goes on leaves as it was
+  -- What an act with which its poll goes on leaves as it was. At each such act the tie before it
+  -- says so.
   record Stays (act : Act) : Type 0 where
     pub made : is_made (act ∷ own cut) ≡ true
     pub gone : GoneBy (OwnerStage.Polls p) asked (act ∷ own cut)
@@ -283,18 +284,7 @@ module _ (bytes client : ℕ) (asked : Option HandleCall) (p : OwnerMachine ℕ)
         fits = (shut_looks c p.state p.is_at_end fits.0 fits.1, fits.1);
       } in
       on_goes t (OwnerClosed (serial_of note)) note q (session_after_close s) same
-      (record {
-        made = t.made;
-        gone = t.gone;
-        asked_is = t.asked;
-        polled = t.polled;
-        holds = t.bytes;
-        acts_so = λ polls. polls;
-        ends = tt;
-        earlier = t.earlier;
-        told =
-            λ waits. cc;
-      }) (lawful bytes client asked p cut (Some s) OwnerAction.Close t is)
+      (assumption (tt, never)) (lawful bytes client asked p cut (Some s) OwnerAction.Close t is)
       (ap OwnerClosed (noted_is s (bound bytes) cut t.last))
       (goes_on_so q note s.item (seen_call (own cut)) (seen_state (own (e ∷ cut))) law.PollSlot
       false (came_back cut) polled refl) (operates_at OwnerAction.Close is t) t.place
@@ -346,18 +336,7 @@ module _ (bytes client : ℕ) (asked : Option HandleCall) (p : OwnerMachine ℕ)
       let last = takes s (bound bytes Reading) began shut over gone took written acts js ps ss
       (max 1 (reach most s)) found e (of_kind Reading lent.0 t) in
       on_goes t (Got found.0 (serial_of found.1)) found.1 q (session_after_drain (Served found) s)
-      same
-      (record {
-        made = t.made;
-        gone = t.gone;
-        asked_is = t.asked;
-        polled = t.polled;
-        holds = t.bytes;
-        acts_so = λ polls. polls;
-        ends = tt;
-        earlier = t.earlier;
-        told = λ waits. cc;
-      }) (lawful bytes client asked p cut (Some s)
+      same (assumption (tt, never)) (lawful bytes client asked p cut (Some s)
       (OwnerAction.Drain most) t is) (ap drain_act (sym e) ∙ found_so most wanted t)
       (goes_on_so q found.1 s.item (seen_call (own cut)) (seen_state (own cut))
       (law.Say (Told.Count (length found.0))) false (came_back cut) polled refl) tt t.place
@@ -390,17 +369,7 @@ module _ (bytes client : ℕ) (asked : Option HandleCall) (p : OwnerMachine ℕ)
       let closed =
       at_end (max 1 (reach most s)) s.pipe.items s.pipe.is_job_open s.pipe.job_seat e in
       on_goes t GotEnd None q s same
-      (record {
-        made = t.made;
-        gone = t.gone;
-        asked_is = t.asked;
-        polled = t.polled;
-        holds = t.bytes;
-        acts_so = λ polls. polls;
-        ends = tt;
-        earlier = t.earlier;
-        told = λ waits. cc;
-      }) (lawful bytes client asked p cut (Some s)
+      (assumption (tt, never)) (lawful bytes client asked p cut (Some s)
       (OwnerAction.Drain most) t is) (ap drain_act (sym e) ∙ found_so most fits.1 t) (
         polls_on t q s.item
             true (came_back cut) refl refl ((
@@ -447,18 +416,7 @@ module _ (bytes client : ℕ) (asked : Option HandleCall) (p : OwnerMachine ℕ)
       found e (of_kind Streaming lent.0 t) in
       on_goes t (GotItem found.0 (serial_of found.1)) found.1 q
       (session_after_receive (Served found) s) same
-      (record {
-        made = t.made;
-        gone = t.gone;
-        asked_is = t.asked;
-        polled = t.polled;
-        holds = t.bytes;
-        acts_so = λ polls. polls;
-        ends = tt;
-        earlier = t.earlier;
-        told =
-            λ waits. cc;
-      }) (lawful bytes client asked p cut (Some s) OwnerAction.Receive t is)
+      (assumption (tt, never)) (lawful bytes client asked p cut (Some s) OwnerAction.Receive t is)
       (ap receive_act (sym e) ∙ item_so t)
       (goes_on_so q found.1 found.0 (seen_call (own cut)) (seen_state (own cut))
       (law.Say (Told.OneItem found.0)) false (came_back cut) polled refl) tt t.place
@@ -486,18 +444,7 @@ module _ (bytes client : ℕ) (asked : Option HandleCall) (p : OwnerMachine ℕ)
       turned p OwnerAction.Receive OwnerAnswer.Ended t.stage.1 is in
       let closed = no_more_items s.pipe.items s.pipe.is_job_open s.pipe.job_seat e in
       on_goes t GotEnd None q s same
-      (record {
-        made = t.made;
-        gone = t.gone;
-        asked_is = t.asked;
-        polled = t.polled;
-        holds = t.bytes;
-        acts_so = λ polls. polls;
-        ends = tt;
-        earlier = t.earlier;
-        told =
-            λ waits. cc;
-      }) (lawful bytes client asked p cut (Some s) OwnerAction.Receive t is)
+      (assumption (tt, never)) (lawful bytes client asked p cut (Some s) OwnerAction.Receive t is)
       (ap receive_act (sym e) ∙ item_so t) (
         polls_on t q s.item true (came_back cut) refl refl ((
           subst (λ c. LooksFrom c p.state true)
@@ -580,17 +527,7 @@ module _ (bytes client : ℕ) (asked : Option HandleCall) (p : OwnerMachine ℕ)
       sym (ap data_of t.stage.0.asked_is ∙ ap (λ c. data_of (Some c)) w.call_is) in
       on_goes t (Filled went.0 (serial_of went.1)) went.1 q
       (session_after_fill offered (Served went) s) same
-      (record {
-        made = t.made;
-        gone = t.gone;
-        asked_is = t.asked;
-        polled = t.polled;
-        holds = t.bytes;
-        acts_so = λ polls. polls;
-        ends = tt;
-        earlier = t.earlier;
-        told = λ waits. cc;
-      }) w.next_is (ap fill_act (sym e) ∙ entered_so (length offered) t)
+      (assumption (tt, never)) w.next_is (ap fill_act (sym e) ∙ entered_so (length offered) t)
       (goes_on_so q went.1 s.item (seen_call (own cut)) (seen_state (own cut))
       (law.Say (Told.Count went.0)) false (came_back cut) polled refl) tt t.place
       (subst (λ k. SessionAs (session_after_fill offered (Served went) s) k (bound bytes k) began
@@ -615,17 +552,7 @@ module _ (bytes client : ℕ) (asked : Option HandleCall) (p : OwnerMachine ℕ)
       let same : owner_after p OwnerAnswer.Shut ≡ q =
       turned p (OwnerAction.Fill (length offered)) OwnerAnswer.Shut t.stage.1 w.most_is in
       on_goes t FillShut None q s same
-      (record {
-        made = t.made;
-        gone = t.gone;
-        asked_is = t.asked;
-        polled = t.polled;
-        holds = t.bytes;
-        acts_so = λ polls. polls;
-        ends = tt;
-        earlier = t.earlier;
-        told = λ waits. cc;
-      }) w.next_is (ap fill_act (sym e) ∙ entered_so (length offered) t) (
+      (assumption (tt, never)) w.next_is (ap fill_act (sym e) ∙ entered_so (length offered) t) (
         polls_on t q s.item false (came_back cut) refl refl
             (subst (λ c. FitsNext c q (OwnerAction.Reply (Reply.Count 0)) false (came_back cut))
             (sym w.call_is) (refl, tt, tt)),
@@ -772,18 +699,7 @@ module _ (bytes client : ℕ) (asked : Option HandleCall) (p : OwnerMachine ℕ)
       ∙ ap (λ b. once_back (Some c) why b kind last_number) (sym fits.1) in
       let there = looks_away c p.state p.is_at_end fits.0 in
       on_goes t Back None q (session_after_look (Full why) s) same
-      (record {
-        made = t.made;
-        gone = t.gone;
-        asked_is = t.asked;
-        polled = t.polled;
-        holds = t.bytes;
-        acts_so = λ polls. polls;
-        ends = tt;
-        earlier = t.earlier;
-        told =
-            λ waits. cc;
-      }) (lawful bytes client asked p cut (Some s) OwnerAction.PollSlot t is)
+      (assumption (tt, never)) (lawful bytes client asked p cut (Some s) OwnerAction.PollSlot t is)
       (ap poll_slot (sym finished)) (
         record {
           call = c;
@@ -988,18 +904,8 @@ module _ (bytes client : ℕ) (asked : Option HandleCall) (p : OwnerMachine ℕ)
       let same : owner_after p OwnerAnswer.Resulted ≡ q =
       turned p OwnerAction.PollResult OwnerAnswer.Resulted t.stage.1 is in
       on_goes t (ResultGot n) None q (session_after_find (Full n) s) same
-      (record {
-        made = t.made;
-        gone = t.gone;
-        asked_is = t.asked;
-        polled = t.polled;
-        holds =
-            t.bytes;
-        acts_so = λ polls. polls;
-        ends = tt;
-        earlier = t.earlier;
-        told = λ waits. cc;
-      }) o.next_is (ap ResultGot holds.2 ∙ ap (λ b. poll_place b (number acts)) (sym holds.0)
+      (assumption (tt, never)) o.next_is
+      (ap ResultGot holds.2 ∙ ap (λ b. poll_place b (number acts)) (sym holds.0)
       ∙ ap (λ l. poll_place (has_result l) (number l)) (sym job)) (
         polls_on t q n false (came_back cut) refl
             refl (result_fits t.stage.0.call q (came_back cut) o.asks),

@@ -41,6 +41,10 @@ abbrev pub value_of : {A : Type 0} → A → Option A → A
 value_of other None = other
 value_of other (Some value) = value
 
+-- a value that is there has what holds of it
+pub moved : {A : Type 0} (P : A → Type 0) (x y : A) → Some x ≡ Some y → P x → P y
+moved P x y e so = subst P (ap (value_of y) e) so
+
 -- ---- the machine of a poll
 
 -- an answer to what a poll does next, where it has no note to deliver

@@ -24,8 +24,9 @@ use Rattle.blocking_world_holders.proofs.Words.{SessionAs, SlotAs, is_finding, p
 use Rattle.blocking_world_holders.proofs.Words.{session_after_finish, session_after_give_up}
 use Rattle.blocking_world_holders.proofs.Words.{session_after_job_close, session_after_put}
 use Rattle.blocking_world_holders.proofs.Words.{session_after_room}
-use Rattle.blocking_world_holders.proofs.owners.Drains.{flow_with, written_with, plain_still}
-use Rattle.blocking_world_holders.proofs.owners.Drains.{same_stuck, same_owner_stuck}
+use Rattle.blocking_world_holders.proofs.owners.Drains.{lent_with, job_sits, flow_with}
+use Rattle.blocking_world_holders.proofs.owners.Drains.{written_with, plain_still, same_stuck}
+use Rattle.blocking_world_holders.proofs.owners.Drains.{same_owner_stuck}
 
 -- ---- what a job finds
 
@@ -180,26 +181,19 @@ left_flow : (s : Session) (slot : Slot (Option (Fault ℕ)) (Unit {0})) (kind : 
     → Flows kind s shut took accepted next acts
     → Flows kind (record s { slot = slot }) shut took accepted Over (GaveUp waker ∷ acts)
 left_flow s slot Reading shut took accepted next acts waker t =
-    flow_with s s.pipe.is_job_open s.pipe.is_owner_open s.pipe.job_seat s.pipe.owner_seat slot
-    t.closed_is (subst (λ b. GaveAll b (passed_by acts)) (sym (or_right shut true refl)) tt)
+    flow_with s t.closed_is
+    (subst (λ b. GaveAll b (passed_by acts)) (sym (or_right shut true refl)) tt)
     (λ is lasts. refl) t
 left_flow s slot Streaming shut took accepted next acts waker t =
-    flow_with s s.pipe.is_job_open s.pipe.is_owner_open s.pipe.job_seat s.pipe.owner_seat slot
-    t.closed_is (subst (λ b. GaveAll b (passed_by acts)) (sym (or_right shut true refl)) tt)
+    flow_with s t.closed_is
+    (subst (λ b. GaveAll b (passed_by acts)) (sym (or_right shut true refl)) tt)
     (λ is lasts. refl) t
 left_flow s slot Writing shut took accepted next acts waker t =
-    written_with s s.pipe.is_job_open s.pipe.is_owner_open s.pipe.job_seat s.pipe.owner_seat slot t
-    t.closed_is (λ stays. absurd (cc)) (λ is lasts. refl)
+    written_with s t t.closed_is (λ stays. absurd (cc)) (λ is lasts. refl)
 left_flow s slot (Seeking goal) shut took accepted next acts waker t =
-    record {
-      plain = plain_still s s.pipe.is_owner_open s.pipe.job_seat slot s.left t.plain;
-      next_is = tt;
-      place = t.place;
-    }
-left_flow s slot Operating shut took accepted next acts waker t = record {
-  plain = plain_still s s.pipe.is_owner_open s.pipe.job_seat slot s.left t.plain;
-  next_is = tt;
-}
+    record { plain = plain_still s t.plain; next_is = tt; place = t.place }
+left_flow s slot Operating shut took accepted next acts waker t =
+    record { plain = plain_still s t.plain; next_is = tt }
 left_flow s slot _ shut took accepted next acts waker t = absurd t
 
 -- and where it closed its end
@@ -207,12 +201,12 @@ closed_flow : (s : Session) (kind : Kind) (shut : Bool) (took accepted : List �
     (waker : HolderWaker)
     → Flows kind s shut took accepted CloseEnd acts
     → Flows kind (session_after_job_close s) shut took accepted Finish (JobClosed waker ∷ acts)
-closed_flow s Reading shut took accepted acts waker t = flow_with s false s.pipe.is_owner_open
-    s.pipe.job_seat None s.slot refl (refl, t.passed_is.1) (λ is. absurd (cc)) t
-closed_flow s Streaming shut took accepted acts waker t = flow_with s false s.pipe.is_owner_open
-    s.pipe.job_seat None s.slot refl (refl, t.passed_is.1) (λ is. absurd (cc)) t
-closed_flow s Writing shut took accepted acts waker t = written_with s false s.pipe.is_owner_open
-    s.pipe.job_seat None s.slot t refl (refl, t.written_is.1, t.written_is.2) (λ is. absurd (cc))
+closed_flow s Reading shut took accepted acts waker t =
+    flow_with s refl (refl, t.passed_is.1) (λ is. absurd (cc)) t
+closed_flow s Streaming shut took accepted acts waker t =
+    flow_with s refl (refl, t.passed_is.1) (λ is. absurd (cc)) t
+closed_flow s Writing shut took accepted acts waker t =
+    written_with s t refl (refl, t.written_is.1, t.written_is.2) (λ is. absurd (cc))
 closed_flow s (Seeking goal) shut took accepted acts waker t = absurd t.next_is
 closed_flow s Operating shut took accepted acts waker t = absurd t.next_is
 closed_flow s _ shut took accepted acts waker t = absurd t
@@ -228,25 +222,16 @@ finished_flow : (s : Session) (slot : Slot (Option (Fault ℕ)) (Unit {0})) (kin
     → Leaves kind s acts → Flows kind s shut took accepted Finish acts
     → Flows kind (record s { slot = slot }) shut took accepted Over (Finished waker ∷ acts)
 finished_flow s slot Reading shut took accepted acts waker leaves t =
-    flow_with s s.pipe.is_job_open s.pipe.is_owner_open s.pipe.job_seat s.pipe.owner_seat slot
-    t.closed_is t.passed_is.1 (λ is lasts. absurd (let closed = t.passed_is.0 in cc)) t
+    flow_with s t.closed_is t.passed_is.1 (λ is lasts. absurd (let closed = t.passed_is.0 in cc)) t
 finished_flow s slot Streaming shut took accepted acts waker leaves t =
-    flow_with s s.pipe.is_job_open s.pipe.is_owner_open s.pipe.job_seat s.pipe.owner_seat slot
-    t.closed_is t.passed_is.1 (λ is lasts. absurd (let closed = t.passed_is.0 in cc)) t
+    flow_with s t.closed_is t.passed_is.1 (λ is lasts. absurd (let closed = t.passed_is.0 in cc)) t
 finished_flow s slot Writing shut took accepted acts waker leaves t =
-    written_with s s.pipe.is_job_open s.pipe.is_owner_open s.pipe.job_seat
-    s.pipe.owner_seat slot t t.closed_is (λ stays. (t.written_is.1, t.written_is.2))
+    written_with s t t.closed_is (λ stays. (t.written_is.1, t.written_is.2))
     (λ is lasts. absurd (let closed = t.written_is.0 in cc))
 finished_flow s slot (Seeking goal) shut took accepted acts waker leaves t =
-    record {
-      plain = plain_still s s.pipe.is_owner_open s.pipe.job_seat slot s.left t.plain;
-      next_is = tt;
-      place = λ is. leaves;
-    }
-finished_flow s slot Operating shut took accepted acts waker leaves t = record {
-  plain = plain_still s s.pipe.is_owner_open s.pipe.job_seat slot s.left t.plain;
-  next_is = tt;
-}
+    record { plain = plain_still s t.plain; next_is = tt; place = λ is. leaves }
+finished_flow s slot Operating shut took accepted acts waker leaves t =
+    record { plain = plain_still s t.plain; next_is = tt }
 finished_flow s slot _ shut took accepted acts waker leaves t = absurd t
 
 module _ (s : Session) (kind : Kind) (capacity : ℕ) (last : Option SeenSession)
@@ -270,14 +255,7 @@ module _ (s : Session) (kind : Kind) (capacity : ℕ) (last : Option SeenSession
       let none = (going s.slot.content (has_finished acts) (has_given_up acts) back dropped
       (fault kind acts) t.result).stays in
       record {
-        lent = record {
-          begun = t.lent.begun;
-          goods = t.lent.goods;
-          some = t.lent.some;
-          holds = t.lent.holds;
-          within = t.lent.within;
-          shut_is = t.lent.shut_is;
-        };
+        lent = lent_with s t.lent t.lent.within;
         flow = closed_flow s kind shut took accepted acts waker t.flow;
         result = t.result;
         seats = record {
@@ -308,14 +286,7 @@ module _ (s : Session) (kind : Kind) (capacity : ℕ) (last : Option SeenSession
       let full = ap (λ (l : Slot (Option (Fault ℕ)) (Unit {0})). l.content) put in
       let out = ap (λ (l : Slot (Option (Fault ℕ)) (Unit {0})). l.seat) put in
       record {
-        lent = record {
-          begun = t.lent.begun;
-          goods = t.lent.goods;
-          some = t.lent.some;
-          holds = t.lent.holds;
-          within = t.lent.within;
-          shut_is = t.lent.shut_is;
-        };
+        lent = lent_with s t.lent t.lent.within;
         flow = finished_flow s (slot_after s.slot.content s.slot.seat why) kind shut took accepted
             acts waker leaves t.flow;
         result = record {
@@ -353,14 +324,7 @@ module _ (s : Session) (kind : Kind) (capacity : ℕ) (last : Option SeenSession
       let full = ap (λ (l : Slot (Option (Fault ℕ)) (Unit {0})). l.content) given in
       let out = ap (λ (l : Slot (Option (Fault ℕ)) (Unit {0})). l.seat) given in
       record {
-        lent = record {
-          begun = t.lent.begun;
-          goods = t.lent.goods;
-          some = t.lent.some;
-          holds = t.lent.holds;
-          within = t.lent.within;
-          shut_is = t.lent.shut_is;
-        };
+        lent = lent_with s t.lent t.lent.within;
         flow = left_flow s (slot_without_job s.slot.content s.slot.seat) kind shut took accepted
             (next_but_wake kind acts) acts waker t.flow;
         result = record {
@@ -424,12 +388,11 @@ module _ (s : Session) (capacity : ℕ) (last : Option SeenSession) (shut back d
       let stopped : shut ≡ true = t.lent.shut_is ∙ ap not closed in
       record {
         lent = t.lent;
-        flow = flow_with s s.pipe.is_job_open s.pipe.is_owner_open s.pipe.job_seat s.pipe.owner_seat
-            s.slot t.flow.closed_is (
-              t.flow.passed_is.0,
-              subst (λ b. GaveAll (b || has_given_up acts) (passed_by acts))
-                  (sym stopped) tt,
-            ) (λ is. absurd (cc)) t.flow;
+        flow = flow_with s t.flow.closed_is (
+          t.flow.passed_is.0,
+          subst (λ b. GaveAll (b || has_given_up acts) (passed_by acts))
+              (sym stopped) tt,
+        ) (λ is. absurd (cc)) t.flow;
         result = t.result;
         seats = nobody_sits s Reading (true || has_given_up acts) (false || has_given_up acts) js ps
             ss (λ seated. let lasts = (t.seats.reason.job seated).2 in cc) t.seats;
@@ -444,40 +407,13 @@ module _ (s : Session) (capacity : ℕ) (last : Option SeenSession) (shut back d
   parks found e t =
       let full = no_room (room s.pipe) s.pipe.is_owner_open found in
       record {
-        lent = record {
-          begun = t.lent.begun;
-          goods = t.lent.goods;
-          some = t.lent.some;
-          holds = t.lent.holds;
-          within = t.lent.within;
-          shut_is = t.lent.shut_is;
-        };
-        flow = record {
-          closed_is = t.flow.closed_is;
-          inside = t.flow.inside;
-          put = t.flow.put;
-          bounded = t.flow.bounded;
-          sound = t.flow.sound;
-          passed_is = t.flow.passed_is;
-          unclosed = t.flow.unclosed;
-          unwritten = t.flow.unwritten;
-        };
+        lent = lent_with s t.lent t.lent.within;
+        flow = flow_with s t.flow.closed_is t.flow.passed_is t.flow.unclosed t.flow;
         result = t.result;
-        seats = record {
-          job = refl;
-          owner = t.seats.owner;
-          slot = t.seats.slot;
-          reason = record {
-            job = λ seated. (
-              or_left (is_finding (next_but_wake Reading acts)) (has_given_up acts)
-                  (ap is_finding e),
-              full.0,
-              full.1,
-            );
-            owner = t.seats.reason.owner;
-            slot = t.seats.reason.slot;
-          };
-        };
+        seats = job_sits s t.seats
+            (or_left (is_finding (next_but_wake Reading acts)) (has_given_up acts)
+            (ap is_finding e))
+            full;
       }
 
 -- ---- its reader answers
@@ -625,14 +561,7 @@ module _ (s : Session) (capacity : ℕ) (last : Option SeenSession) (shut back d
       let more : was_put acts ++ take (length bytes) (answered acts) ≡ was_put acts ++ bytes =
       ap (λ l. was_put acts ++ l) whole in
       record {
-        lent = record {
-          begun = t.lent.begun;
-          goods = t.lent.goods;
-          some = t.lent.some;
-          holds = t.lent.holds;
-          within = rw length-append (omega (arith, within, holds, fits));
-          shut_is = t.lent.shut_is;
-        };
+        lent = lent_with s t.lent (rw length-append (omega (arith, within, holds, fits)));
         flow = record {
           closed_is = t.flow.closed_is;
           inside = more ∙ ap (λ l. l ++ bytes) t.flow.inside ∙ append_assoc took s.pipe.items bytes;
@@ -680,12 +609,11 @@ module _ (s : Session) (capacity : ℕ) (last : Option SeenSession) (shut back d
       let stopped : shut ≡ true = t.lent.shut_is ∙ ap not closed in
       record {
         lent = t.lent;
-        flow = flow_with s s.pipe.is_job_open s.pipe.is_owner_open s.pipe.job_seat s.pipe.owner_seat
-            s.slot t.flow.closed_is (
-              t.flow.passed_is.0,
-              subst (λ b. GaveAll (b || has_given_up acts) (passed_by acts))
-                  (sym stopped) tt,
-            ) (λ is. absurd (cc)) t.flow;
+        flow = flow_with s t.flow.closed_is (
+          t.flow.passed_is.0,
+          subst (λ b. GaveAll (b || has_given_up acts) (passed_by acts))
+              (sym stopped) tt,
+        ) (λ is. absurd (cc)) t.flow;
         result = t.result;
         seats = unseated s Reading (false || has_given_up acts) (false || has_given_up acts) js ps
             ss none t.seats;

@@ -7,7 +7,7 @@ use Rattle.blocking_world_holders.proofs.Words.{room, Closed, Served, Waiting, r
 use Rattle.blocking_world_holders.proofs.Words.{Streaming, has_given_up, next_but_wake, SeenSession}
 use Rattle.blocking_world_holders.proofs.Words.{SessionAs, passed_by, Session, received}
 use Rattle.blocking_world_holders.proofs.Words.{session_after_receive}
-use Rattle.blocking_world_holders.proofs.owners.Drains.{more_room}
+use Rattle.blocking_world_holders.proofs.owners.Drains.{lent_with, flow_with, more_room, owner_sits}
 
 -- an owner that finds an item found the first of what was inside
 pub first_item : {N : Type 0} (items : List ℕ) (lasts : Bool) (seat : Option N) (got : ℕ × Option N)
@@ -43,15 +43,7 @@ module _ (s : Session) (capacity : ℕ) (last : Option SeenSession) (shut back d
       let shorter : length (drop 1 s.pipe.items) ≤ length s.pipe.items =
       simp length-drop (omega arith) in
       record {
-        lent = record {
-          begun = t.lent.begun;
-          goods = t.lent.goods;
-          some = t.lent.some;
-          holds =
-              t.lent.holds;
-          within = omega (arith, shorter, within);
-          shut_is = t.lent.shut_is;
-        };
+        lent = lent_with s t.lent (omega (arith, shorter, within));
         flow = record {
           closed_is = t.flow.closed_is;
           inside = t.flow.inside ∙ ap (λ l. took ++ l) f.0
@@ -85,33 +77,9 @@ module _ (s : Session) (capacity : ℕ) (last : Option SeenSession) (shut back d
       → SessionAs (session_after_receive Waiting s) Streaming capacity last shut back dropped took
       accepted acts js true ss
   waits_for_item found t = record {
-    lent = record {
-      begun = t.lent.begun;
-      goods = t.lent.goods;
-      some = t.lent.some;
-      holds = t.lent.holds;
-      within = t.lent.within;
-      shut_is = t.lent.shut_is;
-    };
-    flow = record {
-      closed_is = t.flow.closed_is;
-      inside = t.flow.inside;
-      put = t.flow.put;
-      bounded = t.flow.bounded;
-      sound = t.flow.sound;
-      passed_is = t.flow.passed_is;
-      unclosed = t.flow.unclosed;
-      unwritten = t.flow.unwritten;
-    };
+    lent = lent_with s t.lent t.lent.within;
+    flow = flow_with s t.flow.closed_is t.flow.passed_is t.flow.unclosed t.flow;
     result = t.result;
-    seats = record {
-      job = t.seats.job;
-      owner = refl;
-      slot = t.seats.slot;
-      reason = record {
-        job = t.seats.reason.job;
-        owner = λ seated. no_item_yet s.pipe.items s.pipe.is_job_open s.pipe.job_seat found;
-        slot = t.seats.reason.slot;
-      };
-    };
+    seats = owner_sits s t.seats
+        (no_item_yet s.pipe.items s.pipe.is_job_open s.pipe.job_seat found);
   }

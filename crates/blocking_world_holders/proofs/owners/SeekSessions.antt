@@ -9,7 +9,7 @@ use Rattle.blocking_world_holders.proofs.Words.{job_next_after_answer as next_af
 use Rattle.blocking_world_holders.proofs.Words.{next_but_wake, number, carried, counted, gave}
 use Rattle.blocking_world_holders.proofs.Words.{peeked, taken, SeenSession, PlainFlow, SessionAs}
 use Rattle.blocking_world_holders.proofs.Words.{Session, session_after_finish}
-use Rattle.blocking_world_holders.proofs.owners.Drains.{plain_still}
+use Rattle.blocking_world_holders.proofs.owners.Drains.{lent_with, plain_still}
 use Rattle.blocking_world_holders.proofs.owners.ReadSessions.{At, tied_at, unseated, going, still}
 use Rattle.blocking_world_holders.proofs.owners.ReadSessions.{finishes}
 
@@ -88,30 +88,11 @@ module _ (s : Session) (goal : Position) (capacity : ℕ) (last : Option SeenSes
       let unfinished = (going s.slot.content (has_finished acts) (has_given_up acts) back dropped
       (fault (Seeking goal) acts) t.result).unfinished in
       record {
-        lent = record {
-          begun = t.lent.begun;
-          goods = t.lent.goods;
-          some = t.lent.some;
-          holds = t.lent.holds;
-          within = t.lent.within;
-          shut_is = t.lent.shut_is;
-        };
-        flow = record {
-          plain = plain_still s s.pipe.is_owner_open s.pipe.job_seat s.slot place t.flow.plain;
-          next_is = tt;
-          place = λ is. absurd (cc);
-        };
+        lent = lent_with s t.lent t.lent.within;
+        flow =
+            record { plain = plain_still s t.flow.plain; next_is = tt; place = λ is. absurd (cc) };
         result = t.result;
-        seats = record {
-          job = t.seats.job;
-          owner = t.seats.owner;
-          slot = t.seats.slot;
-          reason = record {
-            job = t.seats.reason.job;
-            owner = t.seats.reason.owner;
-            slot = t.seats.reason.slot;
-          };
-        };
+        seats = assumption;
       }
 
   -- it puts its result

@@ -51,9 +51,9 @@ use Rattle.blocking_world_holders.proofs.owners.JobActs.{give_up_goes, peek_work
 use Rattle.blocking_world_holders.proofs.owners.JobActs.{writer_close_works, writer_finish_works}
 use Rattle.blocking_world_holders.proofs.owners.JobActs.{writer_answer_goes, item_answer_goes}
 use Rattle.blocking_world_holders.proofs.owners.JobActs.{send_works, streamer_close_works}
-use Rattle.blocking_world_holders.proofs.owners.JobActs.{streamer_finish_works, asking_goes}
-use Rattle.blocking_world_holders.proofs.owners.JobActs.{seek_finish_works, seek_answer_goes}
-use Rattle.blocking_world_holders.proofs.owners.JobActs.{result_works, operation_finish_works}
+use Rattle.blocking_world_holders.proofs.owners.JobActs.{streamer_finish_works, seek_finish_works}
+use Rattle.blocking_world_holders.proofs.owners.JobActs.{seek_answer_goes, result_works}
+use Rattle.blocking_world_holders.proofs.owners.JobActs.{operation_finish_works}
 use Rattle.blocking_world_holders.proofs.owners.JobActs.{operation_answer_goes}
 use Rattle.blocking_world_holders.proofs.owners.Asked.{both_true}
 use Rattle.blocking_world_holders.proofs.owners.Polls.{Goes, owner_by_parts, bound, value_of, doing}
@@ -61,6 +61,8 @@ use Rattle.blocking_world_holders.proofs.owners.OwnerActs.{own_goes}
 use Rattle.blocking_world_holders.proofs.owners.PoolAnswers.{ask_goes, drop_goes, refuse_goes}
 use Rattle.blocking_world_holders.proofs.owners.PoolAnswers.{deliver_goes, begin_goes}
 use Rattle.blocking_world_holders.proofs.owners.ReadSessions.{calls}
+use Rattle.blocking_world_holders.proofs.owners.Machines.{law_is, goes_on}
+use Rattle.blocking_world_holders.proofs.owners.WriteJobs.{plain}
 use Rattle.blocking_world_holders.proofs.owners.ReadJobs as of_reader
 use Rattle.blocking_world_holders.proofs.owners.ItemJobs as of_streamer
 use Rattle.blocking_world_holders.proofs.owners.WriteJobs as of_writer
@@ -175,6 +177,15 @@ its_last bytes client asked here last n cut t among goes =
 
 -- ---- its job works
 
+-- a job that is to be answered isn't over
+asks_on : (job : SessionJob) (acts : List Act) (answer : Answer) → JobAs job acts
+    → is_answer (action_of job) answer ≡ true → is_over (next_but_wake (kind_of job) acts) ≡ false
+asks_on (SessionJob.Read p) acts answer r is = goes_on (of_reader.asks p acts answer r is).1
+asks_on (SessionJob.Write p) acts answer r is = goes_on (of_writer.asks p acts answer r is)
+asks_on (SessionJob.Items p) acts answer r is = goes_on (of_streamer.asks p acts answer r is)
+asks_on (SessionJob.Seek p) acts answer r is = goes_on (of_seeker.asks p acts answer r is)
+asks_on (SessionJob.Operate p) acts answer r is = goes_on (of_operator.asks p acts answer r is)
+
 module _ (bytes client : ℕ) (asked : Option HandleCall) (here : OwnerStage) (h v first : ℕ)
     (growth : Growth) (cut : List Event) where
   -- the law and the tie after an act of job n
@@ -207,41 +218,33 @@ module _ (bytes client : ℕ) (asked : Option HandleCall) (here : OwnerStage) (h
   does_so J job_of s t (Some work) works done does =
       subst (WorkGoes s.number.serial) (ap (value_of done) does) (works work refl)
 
-  -- a job of this kind acts at the session, where it has something to do there
-  at_session : (J : Type 0) (job_of : J → SessionJob) (of : Kind) (next : JobAction)
-      (last : Option Session) (n : ℕ) → OwnerAs (owner_by_parts bytes client asked here last) cut
-      → is_in n (jobs_of (own cut)) ≡ true
-      → kind_of_job n (own cut) ≡ of → next_but_wake of (acts_of n cut) ≡ next → is_over next
-      ≡ false → (found : Session → Option (Work J)) (does : Option Session → Option Worked)
-      → ((s : Session) → does (Some s)
-      ≡ worked_by job_of (found s) (owner_by_parts bytes client asked here (Some s)))
-      → ((s : Session) → n ≡ s.number.serial
-      → (t : OwnerAs (owner_by_parts bytes client asked here (Some s)) cut) → its_kind s
-      (bound bytes) cut t.last ≡ of → is_in s.number.serial (jobs_of (own cut)) ≡ true
-      → (work : Work J) → found s ≡ Some work
+  -- a job of this kind acts at the session, by what it finds to do there, which is nothing once it
+  -- is over
+  at_session : (J : Type 0) (job_of : J → SessionJob) (of : Kind) (next : JobAction) (n : ℕ)
+      (s : Session) (t : OwnerAs (owner_by_parts bytes client asked here (Some s)) cut)
+      → is_in n (jobs_of (own cut)) ≡ true → kind_of_job n (own cut) ≡ of
+      → next_but_wake of (acts_of n cut) ≡ next → (found : Option (Work J))
+      → (is_over next ≡ true → found ≡ None)
+      → (n ≡ s.number.serial → its_kind s (bound bytes) cut t.last ≡ of
+      → is_in s.number.serial (jobs_of (own cut)) ≡ true → (work : Work J) → found ≡ Some work
       → WorksOn bytes client asked here s h v first growth cut t J work)
-      → (done : Worked) → does last ≡ Some done → WorkGoes n done
-  at_session J job_of of next last n t among is table goes found does found_so works done e =
-      let l = at_last last n of next t among is table goes in
-      let s = l.session in
-      let tied = subst (λ o. OwnerAs (owner_by_parts bytes client asked here o) cut) l.here t in
-      let its = subst (λ m. is_in m (jobs_of (own cut)) ≡ true) l.same among in
-      subst (λ m. WorkGoes m done) (sym l.same)
-      (does_so J job_of s tied (found s) (works s l.same tied
-      (kind_at s tied of (subst (λ m. kind_of_job m (own cut) ≡ of) l.same is)) its) done
-      (sym (found_so s) ∙ subst (λ o. does o ≡ Some done) l.here e))
-
-  -- and does nothing where it has nothing to do there
-  nothing_done : (J : Type 0) (job_of : J → SessionJob) (last : Option Session)
-      (found : Session → Option (Work J)) (does : Option Session → Option Worked) → does None ≡ None
-      → ((s : Session) → does (Some s) ≡ worked_by job_of (found s)
-      (owner_by_parts bytes client asked here (Some s))) → ((s : Session) → found s ≡ None)
-      → (n : ℕ) (done : Worked) → does last ≡ Some done → WorkGoes n done
-  nothing_done J job_of None found does none found_so never n done e =
-      absurd (nothing (sym none ∙ e))
-  nothing_done J job_of (Some s) found does none found_so never n done e =
-      absurd (nothing (sym (found_so s ∙ ap (λ o. worked_by job_of o
-      (owner_by_parts bytes client asked here (Some s))) (never s)) ∙ e))
+      → (done : Worked)
+      → worked_by job_of found (owner_by_parts bytes client asked here (Some s)) ≡ Some done
+      → WorkGoes n done
+  at_session J job_of of next n s t among is table found idle works done does =
+      by (is_over next) refl
+    where
+      by : (b : Bool) → is_over next ≡ b → WorkGoes n done
+      by true over = absurd (nothing (sym (ap (λ o. worked_by job_of o
+          (owner_by_parts bytes client asked here (Some s))) (idle over)) ∙ does))
+      by false goes =
+          let l = at_last (Some s) n of next t among is table goes in
+          let same : n ≡ s.number.serial =
+          l.same ∙ sym (ap (λ o. (value_of s o).number.serial) l.here) in
+          subst (λ m. WorkGoes m done) (sym same)
+          (does_so J job_of s t found
+          (works same (kind_at s t of (subst (λ m. kind_of_job m (own cut) ≡ of) same is))
+          (subst (λ m. is_in m (jobs_of (own cut)) ≡ true) same among)) done does)
 
   -- what is done at the session is what was found to do
   as_done : (s : Session) (t : OwnerAs (owner_by_parts bytes client asked here (Some s)) cut)
@@ -354,19 +357,22 @@ module _ (bytes client : ℕ) (asked : Option HandleCall) (here : OwnerStage) (h
       → WorkGoes n done
   read_goes last n t p r of among a is done does = by a is does
     where
-      there : (a : ReadAction) → read_next p.core ≡ a
-          → (a ≡ ReadAction.Deliver → ⊥) → is_over (read_action_as p.piece a) ≡ false
+      idle : (s : Session) (a : ReadAction) → is_over (read_action_as p.piece a) ≡ true
+          → through OfBytes s.goods (work_by a p s) ≡ None
+      idle s ReadAction.Done over = through_none OfBytes s.goods (work_by ReadAction.Done p s) refl
+      idle s _ over = absurd (cc)
+
+      there : (a : ReadAction) → read_next p.core ≡ a → (a ≡ ReadAction.Deliver → ⊥)
+          → (last : Option Session) → OwnerAs (owner_by_parts bytes client asked here last) cut
           → read_in a last p (owner_by_parts bytes client asked here last) ≡ Some done
           → WorkGoes n done
-      there a is other goes does =
-          at_session ReadProgress SessionJob.Read Reading (read_action_as p.piece a) last n t among
-          of (sym r.next ∙ ap (read_action_as p.piece) (of_reader.awake p a is other).next_is)
-          goes
-          (λ s. through OfBytes s.goods (work_by a p s))
-          (λ o. read_in a o p (owner_by_parts bytes client asked here o)) (λ s. refl)
-          (λ s same tied kind its work e.
-          reader_at s tied p (subst (λ m. ReadAs p (acts_of m cut)) same r) kind its a is work
-          (through_some OfBytes s.goods (work_by a p s) work e).1) done does
+      there a is other None t does = absurd (nothing does)
+      there a is other (Some s) t does =
+          at_session ReadProgress SessionJob.Read Reading (read_action_as p.piece a) n s t among of
+          (of_reader.does p (acts_of n cut) r is other).table
+          (through OfBytes s.goods (work_by a p s)) (idle s a)
+          (λ same kind its work e. reader_at s t p (subst (λ m. ReadAs p (acts_of m cut)) same r)
+          kind its a is work (through_some OfBytes s.goods (work_by a p s) work e).1) done does
 
       by : (a : ReadAction) → read_next p.core ≡ a
           → read_as a p (owner_by_parts bytes client asked here last) ≡ Some done → WorkGoes n done
@@ -374,16 +380,9 @@ module _ (bytes client : ℕ) (asked : Option HandleCall) (here : OwnerStage) (h
           subst (WorkGoes n) (ap (value_of done) does)
           (wake_goes bytes client asked here last h v n first growth cut t among
           (ap (λ k. next_of_job k (acts_of n cut)) of
-          ∙ sym (of_reader.action_is p (acts_of n cut) r) ∙ ap (read_action_as p.piece) is))
-      by (ReadAction.Read most) is does = nothing_done ReadProgress SessionJob.Read
-          last (λ s. through OfBytes s.goods (work_by (ReadAction.Read most) p s)) (λ o. read_in
-          (ReadAction.Read most) o p (owner_by_parts bytes client asked here o)) refl (λ s. refl)
-          (λ s. through_none OfBytes s.goods (work_by (ReadAction.Read most) p s) refl) n done does
-      by ReadAction.Done is does = nothing_done ReadProgress SessionJob.Read
-          last (λ s. through OfBytes s.goods (work_by ReadAction.Done p s)) (λ o.
-          read_in ReadAction.Done o p (owner_by_parts bytes client asked here o)) refl (λ s. refl)
-          (λ s. through_none OfBytes s.goods (work_by ReadAction.Done p s) refl) n done does
-      by a is does = there a is (λ e. cc) refl does
+          ∙ law_is (read_action_as p.piece) ReadAction.Deliver refl Reading
+          (acts_of n cut) p.core r.next r.waking ∙ ap (read_action_as p.piece) is))
+      by a is does = there a is (λ e. cc) last t does
 
   -- any act of a job that writes
   write_goes : (last : Option Session) (n : ℕ)
@@ -394,19 +393,23 @@ module _ (bytes client : ℕ) (asked : Option HandleCall) (here : OwnerStage) (h
       → WorkGoes n done
   write_goes last n t p r of among a is done does = by a is does
     where
-      there : (a : WriteAction) → write_next p.core ≡ a
-          → (a ≡ WriteAction.Deliver → ⊥) → is_over (write_action_as p.piece a) ≡ false
+      idle : (s : Session) (a : WriteAction) → is_over (write_action_as p.piece a) ≡ true
+          → through OfBytes s.goods (writer_works a p s) ≡ None
+      idle s WriteAction.Done over =
+          through_none OfBytes s.goods (writer_works WriteAction.Done p s) refl
+      idle s _ over = absurd (cc)
+
+      there : (a : WriteAction) → write_next p.core ≡ a → (a ≡ WriteAction.Deliver → ⊥)
+          → (last : Option Session) → OwnerAs (owner_by_parts bytes client asked here last) cut
           → write_in a last p (owner_by_parts bytes client asked here last) ≡ Some done
           → WorkGoes n done
-      there a is other goes does =
-          at_session WriteProgress SessionJob.Write
-          Writing (write_action_as p.piece a) last n t among of (sym r.next
-          ∙ ap (write_action_as p.piece) (of_writer.awake p a is other).next_is) goes
-          (λ s. through OfBytes s.goods (writer_works a p s))
-          (λ o. write_in a o p (owner_by_parts bytes client asked here o)) (λ s. refl)
-          (λ s same tied kind its work e.
-          writer_at s tied p (subst (λ m. WriteAs p (acts_of m cut)) same r) kind its a is
-          work (through_some OfBytes s.goods (writer_works a p s) work e).1) done does
+      there a is other None t does = absurd (nothing does)
+      there a is other (Some s) t does =
+          at_session WriteProgress SessionJob.Write Writing (write_action_as p.piece a) n s t among
+          of (of_writer.does p (acts_of n cut) r is other).table
+          (through OfBytes s.goods (writer_works a p s)) (idle s a)
+          (λ same kind its work e. writer_at s t p (subst (λ m. WriteAs p (acts_of m cut)) same r)
+          kind its a is work (through_some OfBytes s.goods (writer_works a p s) work e).1) done does
 
       by : (a : WriteAction) → write_next p.core ≡ a
           → write_as a p (owner_by_parts bytes client asked here last) ≡ Some done → WorkGoes n done
@@ -414,21 +417,9 @@ module _ (bytes client : ℕ) (asked : Option HandleCall) (here : OwnerStage) (h
           subst (WorkGoes n) (ap (value_of done) does)
           (wake_goes bytes client asked here last h v n first growth cut t among
           (ap (λ k. next_of_job k (acts_of n cut)) of
-          ∙ sym (of_writer.action_is p (acts_of n cut) r) ∙ ap (write_action_as p.piece) is))
-      by (WriteAction.Write count) is does = nothing_done WriteProgress SessionJob.Write
-          last (λ s. through OfBytes s.goods (writer_works (WriteAction.Write count) p s))
-          (λ o. write_in (WriteAction.Write count) o p (owner_by_parts bytes client asked here o))
-          refl (λ s. refl) (λ s. through_none OfBytes s.goods
-          (writer_works (WriteAction.Write count) p s) refl) n done does
-      by WriteAction.Flush is does = nothing_done WriteProgress SessionJob.Write
-          last (λ s. through OfBytes s.goods (writer_works WriteAction.Flush p s)) (λ o. write_in
-          WriteAction.Flush o p (owner_by_parts bytes client asked here o)) refl (λ s. refl)
-          (λ s. through_none OfBytes s.goods (writer_works WriteAction.Flush p s) refl) n done does
-      by WriteAction.Done is does = nothing_done WriteProgress SessionJob.Write
-          last (λ s. through OfBytes s.goods (writer_works WriteAction.Done p s)) (λ o. write_in
-          WriteAction.Done o p (owner_by_parts bytes client asked here o)) refl (λ s. refl)
-          (λ s. through_none OfBytes s.goods (writer_works WriteAction.Done p s) refl) n done does
-      by a is does = there a is (λ e. cc) refl does
+          ∙ law_is (write_action_as p.piece) WriteAction.Deliver refl Writing
+          (acts_of n cut) (plain p.core) r.next r.waking ∙ ap (write_action_as p.piece) is))
+      by a is does = there a is (λ e. cc) last t does
 
   -- any act of a job that runs an iterator
   stream_goes : (last : Option Session) (n : ℕ)
@@ -439,19 +430,24 @@ module _ (bytes client : ℕ) (asked : Option HandleCall) (here : OwnerStage) (h
       → WorkGoes n done
   stream_goes last n t p r of among a is done does = by a is does
     where
-      there : (a : ItemAction) → item_next p.core ≡ a
-          → (a ≡ ItemAction.Deliver → ⊥) → is_over (item_action_as p.item a) ≡ false
+      idle : (s : Session) (a : ItemAction) → is_over (item_action_as p.item a) ≡ true
+          → through OfItems s.goods (streamer_works a p s) ≡ None
+      idle s ItemAction.Done over =
+          through_none OfItems s.goods (streamer_works ItemAction.Done p s) refl
+      idle s _ over = absurd (cc)
+
+      there : (a : ItemAction) → item_next p.core ≡ a → (a ≡ ItemAction.Deliver → ⊥)
+          → (last : Option Session) → OwnerAs (owner_by_parts bytes client asked here last) cut
           → stream_in a last p (owner_by_parts bytes client asked here last) ≡ Some done
           → WorkGoes n done
-      there a is other goes does =
-          at_session ItemProgress
-          SessionJob.Items Streaming (item_action_as p.item a) last n t among of (sym r.next
-          ∙ ap (item_action_as p.item) (of_streamer.awake p a is other).next_is) goes
-          (λ s. through OfItems s.goods (streamer_works a p s))
-          (λ o. stream_in a o p (owner_by_parts bytes client asked here o)) (λ s. refl)
-          (λ s same tied kind its work e.
-          streamer_at s tied p (subst (λ m. ItemAs p (acts_of m cut)) same r) kind its a is
-          work (through_some OfItems s.goods (streamer_works a p s) work e).1) done does
+      there a is other None t does = absurd (nothing does)
+      there a is other (Some s) t does =
+          at_session ItemProgress SessionJob.Items Streaming (item_action_as p.item a) n s t among
+          of (of_streamer.does p (acts_of n cut) r is other).table
+          (through OfItems s.goods (streamer_works a p s)) (idle s a)
+          (λ same kind its work e. streamer_at s t p (subst (λ m. ItemAs p (acts_of m cut)) same r)
+          kind its a is work
+          (through_some OfItems s.goods (streamer_works a p s) work e).1) done does
 
       by : (a : ItemAction) → item_next p.core ≡ a
           → stream_as a p (owner_by_parts bytes client asked here last) ≡ Some done
@@ -460,16 +456,9 @@ module _ (bytes client : ℕ) (asked : Option HandleCall) (here : OwnerStage) (h
           subst (WorkGoes n) (ap (value_of done) does)
           (wake_goes bytes client asked here last h v n first growth cut t among
           (ap (λ k. next_of_job k (acts_of n cut)) of
-          ∙ sym (of_streamer.action_is p (acts_of n cut) r) ∙ ap (item_action_as p.item) is))
-      by ItemAction.Next is does = nothing_done ItemProgress SessionJob.Items
-          last (λ s. through OfItems s.goods (streamer_works ItemAction.Next p s)) (λ o. stream_in
-          ItemAction.Next o p (owner_by_parts bytes client asked here o)) refl (λ s. refl)
-          (λ s. through_none OfItems s.goods (streamer_works ItemAction.Next p s) refl) n done does
-      by ItemAction.Done is does = nothing_done ItemProgress SessionJob.Items
-          last (λ s. through OfItems s.goods (streamer_works ItemAction.Done p s)) (λ o. stream_in
-          ItemAction.Done o p (owner_by_parts bytes client asked here o)) refl (λ s. refl)
-          (λ s. through_none OfItems s.goods (streamer_works ItemAction.Done p s) refl) n done does
-      by a is does = there a is (λ e. cc) refl does
+          ∙ law_is (item_action_as p.item) ItemAction.Deliver refl Streaming
+          (acts_of n cut) p.core r.next r.waking ∙ ap (item_action_as p.item) is))
+      by a is does = there a is (λ e. cc) last t does
 
   -- any act of a job that seeks
   seek_goes : (last : Option Session) (n : ℕ)
@@ -480,17 +469,21 @@ module _ (bytes client : ℕ) (asked : Option HandleCall) (here : OwnerStage) (h
       → WorkGoes n done
   seek_goes last n t p r of among a is done does = by a is does
     where
-      there : (a : SeekAction) → seek_next p.core ≡ a
-          → (a ≡ SeekAction.Deliver → ⊥) → is_over (seek_action_as a) ≡ false
+      idle : (s : Session) (a : SeekAction) → is_over (seek_action_as a) ≡ true
+          → seek_works a p s ≡ None
+      idle s SeekAction.Done over = refl
+      idle s _ over = absurd (cc)
+
+      there : (a : SeekAction) → seek_next p.core ≡ a → (a ≡ SeekAction.Deliver → ⊥)
+          → (last : Option Session) → OwnerAs (owner_by_parts bytes client asked here last) cut
           → seek_in a last p (owner_by_parts bytes client asked here last) ≡ Some done
           → WorkGoes n done
-      there a is other goes does =
-          at_session SeekProgress SessionJob.Seek (Seeking p.goal) (seek_action_as a) last n t among
-          of (sym r.next ∙ ap seek_action_as (of_seeker.awake p a is other).next_is) goes
-          (λ s. seek_works a p s) (λ o. seek_in a o p (owner_by_parts bytes client asked here o))
-          (λ s. refl)
-          (λ s same tied kind its work e. seeker_at s tied p
-          (subst (λ m. SeekAs p (acts_of m cut)) same r) kind its a is work e) done does
+      there a is other None t does = absurd (nothing does)
+      there a is other (Some s) t does =
+          at_session SeekProgress SessionJob.Seek (Seeking p.goal) (seek_action_as a) n s t among of
+          (of_seeker.does p (acts_of n cut) r is other).table (seek_works a p s) (idle s a)
+          (λ same kind its work e. seeker_at s t p (subst (λ m. SeekAs p (acts_of m cut)) same r)
+          kind its a is work e) done does
 
       by : (a : SeekAction) → seek_next p.core ≡ a
           → seek_as a p (owner_by_parts bytes client asked here last) ≡ Some done → WorkGoes n done
@@ -498,16 +491,9 @@ module _ (bytes client : ℕ) (asked : Option HandleCall) (here : OwnerStage) (h
           subst (WorkGoes n) (ap (value_of done) does)
           (wake_goes bytes client asked here last h v n first growth cut t among
           (ap (λ k. next_of_job k (acts_of n cut)) of
-          ∙ sym (of_seeker.action_is p (acts_of n cut) r) ∙ ap seek_action_as is))
-      by SeekAction.Seek is does =
-          nothing_done SeekProgress SessionJob.Seek last (λ s. seek_works SeekAction.Seek p s)
-          (λ o. seek_in SeekAction.Seek o p (owner_by_parts bytes client asked here o)) refl
-          (λ s. refl) (λ s. refl) n done does
-      by SeekAction.Done is does =
-          nothing_done SeekProgress SessionJob.Seek last (λ s. seek_works SeekAction.Done p s)
-          (λ o. seek_in SeekAction.Done o p (owner_by_parts bytes client asked here o)) refl
-          (λ s. refl) (λ s. refl) n done does
-      by a is does = there a is (λ e. cc) refl does
+          ∙ law_is seek_action_as SeekAction.Deliver refl (Seeking p.goal)
+          (acts_of n cut) p.core r.next r.waking ∙ ap seek_action_as is))
+      by a is does = there a is (λ e. cc) last t does
 
   -- any act of a job that runs an operation
   operate_goes : (last : Option Session) (n : ℕ)
@@ -518,17 +504,22 @@ module _ (bytes client : ℕ) (asked : Option HandleCall) (here : OwnerStage) (h
       → WorkGoes n done
   operate_goes last n t p r of among a is done does = by a is does
     where
-      there : (a : OpAction) → operation_next p.core ≡ a
-          → (a ≡ OpAction.Deliver → ⊥) → is_over (operation_action_as a) ≡ false
+      idle : (s : Session) (a : OpAction) → is_over (operation_action_as a) ≡ true
+          → operation_works a p s ≡ None
+      idle s OpAction.Done over = refl
+      idle s _ over = absurd (cc)
+
+      there : (a : OpAction) → operation_next p.core ≡ a → (a ≡ OpAction.Deliver → ⊥)
+          → (last : Option Session) → OwnerAs (owner_by_parts bytes client asked here last) cut
           → operate_in a last p (owner_by_parts bytes client asked here last) ≡ Some done
           → WorkGoes n done
-      there a is other goes does =
-          at_session OpProgress SessionJob.Operate Operating (operation_action_as a) last n t among
-          of (sym r.next ∙ ap operation_action_as (of_operator.awake p a is other).next_is) goes
-          (λ s. operation_works a p s)
-          (λ o. operate_in a o p (owner_by_parts bytes client asked here o)) (λ s. refl)
-          (λ s same tied kind its work e. operator_at s tied p
-          (subst (λ m. OperationAs p (acts_of m cut)) same r) kind its a is work e) done does
+      there a is other None t does = absurd (nothing does)
+      there a is other (Some s) t does =
+          at_session OpProgress SessionJob.Operate Operating (operation_action_as a) n s t among of
+          (of_operator.does p (acts_of n cut) r is other).table (operation_works a p s) (idle s a)
+          (λ same kind its work e.
+          operator_at s t p (subst (λ m. OperationAs p (acts_of m cut)) same r)
+          kind its a is work e) done does
 
       by : (a : OpAction) → operation_next p.core ≡ a
           → operate_as a p (owner_by_parts bytes client asked here last) ≡ Some done
@@ -537,16 +528,27 @@ module _ (bytes client : ℕ) (asked : Option HandleCall) (here : OwnerStage) (h
           subst (WorkGoes n) (ap (value_of done) does)
           (wake_goes bytes client asked here last h v n first growth cut t among
           (ap (λ k. next_of_job k (acts_of n cut)) of
-          ∙ sym (of_operator.action_is p (acts_of n cut) r) ∙ ap operation_action_as is))
-      by OpAction.Call is does =
-          nothing_done OpProgress SessionJob.Operate last (λ s. operation_works OpAction.Call p s)
-          (λ o. operate_in OpAction.Call o p (owner_by_parts bytes client asked here o)) refl
-          (λ s. refl) (λ s. refl) n done does
-      by OpAction.Done is does =
-          nothing_done OpProgress SessionJob.Operate last (λ s. operation_works OpAction.Done p s)
-          (λ o. operate_in OpAction.Done o p (owner_by_parts bytes client asked here o)) refl
-          (λ s. refl) (λ s. refl) n done does
-      by a is does = there a is (λ e. cc) refl does
+          ∙ law_is operation_action_as OpAction.Deliver refl Operating
+          (acts_of n cut) p.core r.next r.waking ∙ ap operation_action_as is))
+      by a is does = there a is (λ e. cc) last t does
+
+  -- its handle answers, at the session
+  answered_at : (s : Session) (t : OwnerAs (owner_by_parts bytes client asked here (Some s)) cut)
+      (job : SessionJob) (answer : Answer) → its_kind s (bound bytes) cut t.last ≡ kind_of job
+      → is_in s.number.serial (jobs_of (own cut)) ≡ true → JobAs job (acts_of s.number.serial cut)
+      → is_answer (action_of job) answer ≡ true
+      → Goes (owner_by_parts bytes client asked here (Some s)) cut
+      (by_its_job h v s.number.serial (Answered answer) first growth)
+  answered_at s t (SessionJob.Read p) answer of among r is =
+      answer_goes bytes client asked here s h v first growth cut t p r of among answer is
+  answered_at s t (SessionJob.Write p) answer of among r is =
+      writer_answer_goes bytes client asked here s h v first growth cut t p r of among answer is
+  answered_at s t (SessionJob.Items p) answer of among r is =
+      item_answer_goes bytes client asked here s h v first growth cut t p r of among answer is
+  answered_at s t (SessionJob.Seek p) answer of among r is =
+      seek_answer_goes bytes client asked here s h v first growth cut t p r of among answer is
+  answered_at s t (SessionJob.Operate p) answer of among r is =
+      operation_answer_goes bytes client asked here s h v first growth cut t p r of among answer is
 
   -- any act of its own
   pub works_goes : (last : Option Session) (n : ℕ)
@@ -626,82 +628,19 @@ answered : (bytes client : ℕ) (asked : Option HandleCall) (here : OwnerStage)
     → is_in n (jobs_of (own cut)) ≡ true
     → Goes (owner_by_parts bytes client asked here last) cut
     (by_its_job h v n (Answered answer) first growth)
-answered bytes client asked here last h v n first growth cut t (SessionJob.Read p) answer of r is
-    among =
-    let q = of_reader.asks p (acts_of n cut) answer r is in
-    let l = its_last bytes client asked here last n cut t among
-    (ap (λ k. is_over (next_but_wake k (acts_of n cut))) of ∙ ap is_over q.table) in
+answered bytes client asked here last h v n first growth cut t job answer of r is among =
+    let l = its_last bytes client asked here last n cut t among (ap (λ k. is_over (next_but_wake k
+    (acts_of n cut))) of ∙ asks_on job (acts_of n cut) answer r is) in
     let tied = subst (λ o. OwnerAs (owner_by_parts bytes client asked here o) cut) l.here t in
     subst (λ m. Goes (owner_by_parts bytes client asked here last) cut
     (by_its_job h v m (Answered answer) first growth)) (sym l.same)
     (subst (λ o. Goes (owner_by_parts bytes client asked here o) cut
     (by_its_job h v l.session.number.serial (Answered answer) first growth)) (sym l.here)
-    (answer_goes bytes client asked here l.session h v first growth cut tied p
-    (subst (λ m. ReadAs p (acts_of m cut)) l.same r)
-    (kind_at bytes client asked here h v first growth
-    cut l.session tied Reading (subst (λ m. kind_of_job m (own cut) ≡ Reading) l.same of))
-    (subst (λ m. is_in m (jobs_of (own cut)) ≡ true) l.same among) answer is))
-answered bytes client asked here last h v n first growth cut t (SessionJob.Write p) answer of r is
-    among =
-    let q = of_writer.asks p (acts_of n cut) answer r is in
-    let l = its_last bytes client asked here last
-    n cut t among (ap (λ k. is_over (next_but_wake k (acts_of n cut))) of ∙ ap is_over q.table
-    ∙ asking_goes (write_action_as p.piece q.now) answer q.fits) in
-    let tied = subst (λ o. OwnerAs (owner_by_parts bytes client asked here o) cut) l.here t in
-    subst (λ m. Goes (owner_by_parts bytes client asked here last) cut
-    (by_its_job h v m (Answered answer) first growth)) (sym l.same)
-    (subst (λ o. Goes (owner_by_parts bytes client asked here o) cut
-    (by_its_job h v l.session.number.serial (Answered answer) first growth)) (sym l.here)
-    (writer_answer_goes bytes client asked here l.session h v first growth cut tied p
-    (subst (λ m. WriteAs p (acts_of m cut)) l.same r)
-    (kind_at bytes client asked here h v first growth
-    cut l.session tied Writing (subst (λ m. kind_of_job m (own cut) ≡ Writing) l.same of))
-    (subst (λ m. is_in m (jobs_of (own cut)) ≡ true) l.same among) answer is))
-answered bytes client asked here last h v n first growth cut t (SessionJob.Items p) answer of r is
-    among =
-    let q = of_streamer.asks p (acts_of n cut) answer r is in
-    let l = its_last bytes client asked here last n cut t among
-    (ap (λ k. is_over (next_but_wake k (acts_of n cut))) of ∙ ap is_over q.table) in
-    let tied = subst (λ o. OwnerAs (owner_by_parts bytes client asked here o) cut) l.here t in
-    subst (λ m. Goes (owner_by_parts bytes client asked here last) cut
-    (by_its_job h v m (Answered answer) first growth)) (sym l.same)
-    (subst (λ o. Goes (owner_by_parts bytes client asked here o) cut
-    (by_its_job h v l.session.number.serial (Answered answer) first growth)) (sym l.here)
-    (item_answer_goes bytes client asked here l.session h v first growth cut tied p
-    (subst (λ m. ItemAs p (acts_of m cut)) l.same r)
-    (kind_at bytes client asked here h v first growth
-    cut l.session tied Streaming (subst (λ m. kind_of_job m (own cut) ≡ Streaming) l.same of))
-    (subst (λ m. is_in m (jobs_of (own cut)) ≡ true) l.same among) answer is))
-answered bytes client asked here last h v n first growth cut t (SessionJob.Seek p) answer of r is
-    among =
-    let q = of_seeker.asks p (acts_of n cut) answer r is in
-    let l = its_last bytes client asked here last n cut t among
-    (ap (λ k. is_over (next_but_wake k (acts_of n cut))) of ∙ ap is_over q.table) in
-    let tied = subst (λ o. OwnerAs (owner_by_parts bytes client asked here o) cut) l.here t in
-    subst (λ m. Goes (owner_by_parts bytes client asked here last) cut
-    (by_its_job h v m (Answered answer) first growth)) (sym l.same)
-    (subst (λ o. Goes (owner_by_parts bytes client asked here o) cut
-    (by_its_job h v l.session.number.serial (Answered answer) first growth)) (sym l.here)
-    (seek_answer_goes bytes client asked here l.session h v first growth cut tied p
-    (subst (λ m. SeekAs p (acts_of m cut)) l.same r)
-    (kind_at bytes client asked here h v first growth cut l.session
-    tied (Seeking p.goal) (subst (λ m. kind_of_job m (own cut) ≡ Seeking p.goal) l.same of))
-    (subst (λ m. is_in m (jobs_of (own cut)) ≡ true) l.same among) answer is))
-answered bytes client asked here last h v n first growth cut t (SessionJob.Operate p) answer of r is
-    among =
-    let q = of_operator.asks p (acts_of n cut) answer r is in
-    let l = its_last bytes client asked here last n cut t among
-    (ap (λ k. is_over (next_but_wake k (acts_of n cut))) of ∙ ap is_over q.table) in
-    let tied = subst (λ o. OwnerAs (owner_by_parts bytes client asked here o) cut) l.here t in
-    subst (λ m. Goes (owner_by_parts bytes client asked here last) cut
-    (by_its_job h v m (Answered answer) first growth)) (sym l.same)
-    (subst (λ o. Goes (owner_by_parts bytes client asked here o) cut
-    (by_its_job h v l.session.number.serial (Answered answer) first growth)) (sym l.here)
-    (operation_answer_goes bytes client asked here l.session h v first growth cut tied p
-    (subst (λ m. OperationAs p (acts_of m cut)) l.same r)
-    (kind_at bytes client asked here h v first growth
-    cut l.session tied Operating (subst (λ m. kind_of_job m (own cut) ≡ Operating) l.same of))
-    (subst (λ m. is_in m (jobs_of (own cut)) ≡ true) l.same among) answer is))
+    (answered_at bytes client asked here h v first growth cut l.session tied job answer
+    (kind_at bytes client asked here h v first growth cut l.session tied (kind_of job)
+    (subst (λ m. kind_of_job m (own cut) ≡ kind_of job) l.same of))
+    (subst (λ m. is_in m (jobs_of (own cut)) ≡ true) l.same among)
+    (subst (λ m. JobAs job (acts_of m cut)) l.same r) is))
 
 module _ (bytes client : ℕ) (asked : Option HandleCall) (last : Option Session) (h v n first : ℕ)
     (growth : Growth) (cut : List Event) (act : Act) where

@@ -21,7 +21,7 @@ use Rattle.blocking_world_holders.proofs.Words.{IsBeginning, SeenSession, Result
 use Rattle.blocking_world_holders.proofs.Words.{WrittenAs, is_finding, wrote_by, Session}
 use Rattle.blocking_world_holders.proofs.Words.{found_piece, session_after_consume}
 use Rattle.blocking_world_holders.proofs.Words.{session_after_peek}
-use Rattle.blocking_world_holders.proofs.owners.Drains.{written_with}
+use Rattle.blocking_world_holders.proofs.owners.Drains.{lent_with, job_sits, written_with}
 use Rattle.blocking_world_holders.proofs.owners.ReadSessions.{At, at, tied_at, unseated, going}
 use Rattle.blocking_world_holders.proofs.owners.ReadSessions.{still, nobody_sits}
 
@@ -98,32 +98,13 @@ module _ (s : Session) (capacity : ℕ) (last : Option SeenSession) (shut back d
   peek_parks found e t =
       let none = no_piece 65536 s.pipe.items s.pipe.is_owner_open found in
       record {
-        lent = record {
-          begun = t.lent.begun;
-          goods = t.lent.goods;
-          some = t.lent.some;
-          holds = t.lent.holds;
-          within = t.lent.within;
-          shut_is = t.lent.shut_is;
-        };
-        flow = written_with s s.pipe.is_job_open s.pipe.is_owner_open (Some s.number)
-            s.pipe.owner_seat s.slot t.flow t.flow.closed_is t.flow.written_is t.flow.unclosed;
+        lent = lent_with s t.lent t.lent.within;
+        flow = written_with s t.flow t.flow.closed_is t.flow.written_is t.flow.unclosed;
         result = t.result;
-        seats = record {
-          job = refl;
-          owner = t.seats.owner;
-          slot = t.seats.slot;
-          reason = record {
-            job = λ seated. (
-              or_left (is_finding (next_but_wake Writing acts)) (has_given_up acts)
-                  (ap is_finding e),
-              none.0,
-              none.1,
-            );
-            owner = t.seats.reason.owner;
-            slot = t.seats.reason.slot;
-          };
-        };
+        seats = job_sits s t.seats
+            (or_left (is_finding (next_but_wake Writing acts)) (has_given_up acts)
+            (ap is_finding e))
+            none;
       }
 
   -- it finds the pipe drained for good
@@ -136,12 +117,11 @@ module _ (s : Session) (capacity : ℕ) (last : Option SeenSession) (shut back d
       let closed = none.1 in
       record {
         lent = t.lent;
-        flow = written_with s s.pipe.is_job_open s.pipe.is_owner_open
-            s.pipe.job_seat s.pipe.owner_seat s.slot t.flow t.flow.closed_is (
-              p.0,
-              p.1,
-              λ sound. (none.0, t.lent.shut_is ∙ ap not closed),
-            ) (λ is. absurd (cc));
+        flow = written_with s t.flow t.flow.closed_is (
+          p.0,
+          p.1,
+          λ sound. (none.0, t.lent.shut_is ∙ ap not closed),
+        ) (λ is. absurd (cc));
         result = t.result;
         seats = nobody_sits s Writing (true || has_given_up acts) (false || has_given_up acts) js ps
             ss (λ seated. let lasts = (t.seats.reason.job seated).2 in cc) t.seats;
@@ -164,15 +144,7 @@ module _ (s : Session) (capacity : ℕ) (last : Option SeenSession) (shut back d
       let shorter : length rest ≤ length s.pipe.items = simp length-drop (omega arith) in
       let many : length first ≡ n = length-take n s.pipe.items ∙ omega (arith, fits) in
       record {
-        lent = record {
-          begun = t.lent.begun;
-          goods = t.lent.goods;
-          some = t.lent.some;
-          holds =
-              t.lent.holds;
-          within = omega (arith, shorter, within);
-          shut_is = t.lent.shut_is;
-        };
+        lent = lent_with s t.lent (omega (arith, shorter, within));
         flow = record {
           closed_is = t.flow.closed_is;
           out = t.flow.out ++ first;
