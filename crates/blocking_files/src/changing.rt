@@ -58,7 +58,7 @@ fn begin<H: Runtime, J: Job + Carries<CallJob<Change, H>>>(
 impl<'a, H: Runtime, J: Job + Carries<CallJob<Change, H>> + Carries<WriteJob<Shared, H>>> Future
     for Changing<'a, H, J> {
     ghost use Rattle.futures.specs.Poll.{IfReady, OnPending};
-    ghost use Rattle.futures.specs.Task.{Covers, IsArmed, Keeps};
+    ghost use Rattle.futures.specs.Task.{Covers, Keeps};
     ghost use Rattle.blocking_core.specs.declared.unblock.PollCall.TheVariants.{Flush as FlushCall};
     ghost use Rattle.blocking_unblock.specs.Owners.{Follows, reply_of_done};
     ghost use Rattle.blocking_files.specs.Told.{IsFlushed};
@@ -74,7 +74,7 @@ impl<'a, H: Runtime, J: Job + Carries<CallJob<Change, H>> + Carries<WriteJob<Sha
             × Follows FlushCall self.old.file.now.owner.owner.place (reply_of_done flushed) self.new.file.now.owner.owner.place
             × IfSome self.new.task (λ task. IsSome task.asked → IsFlushed flushed) }
         ensures done { IfReady result (λ _. IsSome self.new.task) }
-        ensures armed { OnPending result (IsArmed cx.new) }
+        ensures armed { OnPending result (Covers cx.new (λ _. ⊥)) }
         ensures seated { OnPending result (IfSome self.new.task (λ change. IfSome change.task (λ task. IsSome task.asked))) }
         ensures registered { OnPending result (IfSome self.new.task (λ change.
             Covers cx.new (λ source. IsSomeAnd change.task (λ task. source ≡ task.source.id)))) }

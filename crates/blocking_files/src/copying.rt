@@ -1,7 +1,7 @@
 //! A copy of a file to another.
 ghost use Rattle.std.specs.Prelude.{◌≡◌, false, IfOk, IfErr, IfSome, IsNone, IsSome, IsSomeAnd};
 ghost use Rattle.futures.specs.Poll.{IfReady, OnPending};
-ghost use Rattle.futures.specs.Task.{Covers, IsArmed, Keeps};
+ghost use Rattle.futures.specs.Task.{Covers, Keeps};
 ghost use Rattle.std.specs.Option.{ForSome};
 ghost use Rattle.blocking_io.specs.CopySteps.{is_over};
 
@@ -90,7 +90,7 @@ impl<H: Runtime, J: Job + Carries<ReadJob<Shared, H>> + Carries<WriteJob<Shared,
 
     fn poll(&mut self, cx: &mut Context<'_>) -> Poll<io::Result<u64>>
         ensures over { IfReady result (λ _. IsNone self.new.copier) }
-        ensures armed { OnPending result (IsArmed cx.new) }
+        ensures armed { OnPending result (Covers cx.new (λ _. ⊥)) }
         ensures seated { OnPending result (IsNone self.new.copier → IfSome self.new.task.task (λ task. IsSome task.asked)) }
         ensures registered { OnPending result (IsNone self.new.copier →
             Covers cx.new (λ source. IsSomeAnd self.new.task.task (λ task. source ≡ task.source.id))) }

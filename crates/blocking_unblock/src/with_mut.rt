@@ -1,7 +1,7 @@
 //! The future of an operation on a lent handle.
 ghost use Rattle.std.specs.Prelude.{◌≡◌, true, false, Some};
 ghost use Rattle.futures.specs.Poll.{IfReady, OnPending};
-ghost use Rattle.futures.specs.Task.{IsArmed, Keeps};
+ghost use Rattle.futures.specs.Task.{Covers, Keeps};
 ghost use Rattle.blocking_unblock.specs.Owners.{IsClosed, is_operating};
 ghost use Rattle.blocking_unblock.specs.Lenders.{has_begun, is_over, given_in, OperationGives};
 
@@ -95,7 +95,7 @@ impl<
         ensures again { OnPending result (is_over self.new.operation.stage ≡ false) }
         ensures same { OnPending result ((out : _) → OperationGives F.may_give self.new.operation.stage out
             → OperationGives F.may_give self.old.operation.stage out) }
-        ensures armed { OnPending result (IsArmed cx.new) }
+        ensures registered { OnPending result (Covers cx.new (λ _. ⊥)) }
         ensures kept { Keeps cx.old cx.new }
     {
         let owner = &mut *self.owner;
