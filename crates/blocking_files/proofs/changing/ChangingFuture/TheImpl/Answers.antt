@@ -23,6 +23,6 @@ poll-tells g x c = record {
   value = ready_anyhow c.result;
   again = pending_anyhow c.result;
   same = promises_no_less c.result;
-  registered = c.ensures.registered;
+  registered = c.ensures.armed;
   kept = c.ensures.kept;
 }
