@@ -2,8 +2,8 @@
 ghost use Rattle.std.specs.Prelude.{IfOk};
 ghost use Rattle.blocking_tokio_tests.specs.Copied.{IsCopied};
 
-use crate::files::{LendsFiles, Lent, Place, System, pool};
-use blocking::{AsyncRead, AsyncWrite, Executor, Host, Unblock};
+use crate::files::{Lent, Place, System};
+use blocking::{AsyncRead, AsyncWrite, Host, Unblock};
 use blocking_tokio::{CompatReader, CompatWriter};
 use futures::executor::block_on;
 use std::io;
@@ -36,27 +36,21 @@ fn numbered<H: Host>(rt: &H, count: usize) -> io::Result<Vec<u8>> {
     Ok(bytes)
 }
 
-// Whether so many bytes are copied from a file to another.
-fn copies<J: LendsFiles<H>, H: System>(
-    rt: H,
-    pool: &Executor<J, H>,
-    count: usize,
-) -> io::Result<bool> {
+fn copies<H: System>(rt: H, count: usize) -> io::Result<bool> {
     let place = Place::new(rt, "blocking_tokio_copies")?;
     let bytes = numbered(&rt, count)?;
     let (from, to) = (place.open("from", &bytes)?, place.create("to")?);
-    let (readers, writers) = (pool.try_clone()?, pool.try_clone()?);
-    let from: Lent<J, H> = Unblock::new(readers, from);
-    let to: Lent<J, H> = Unblock::new(writers, to);
+    let (readers, writers) = (place.executor()?, place.executor()?);
+    let from: Lent<H> = Unblock::new(readers, from);
+    let to: Lent<H> = Unblock::new(writers, to);
     let told = copied(&rt, from, to)?;
     Ok(told == count as u64 && place.bytes("to")? == bytes)
 }
 
 #[test]
 fn lent_file_is_copied(rt: HostRuntime) -> Result<(), Fail> {
-    let pool = pool(rt)?;
     for count in [0, 1, 300_000] {
-        assert!(rt; copies(rt, &pool, count)?, "{count}");
+        assert!(rt; copies(rt, count)?, "{count}");
     }
     Ok(())
 }

@@ -1,5 +1,5 @@
 //! Files of the tests, each with a name of its own, and pools to lend them to.
-use blocking::{Carries, Executor, FileJobs, Host, Job, ReadJob, Runtime, Unblock, WriteJob};
+use blocking::{Executor, FileJobs, Host, Unblock};
 use std::env::Env;
 use std::fs::{File, Files};
 use std::path::PathBuf;
@@ -10,21 +10,8 @@ pub(crate) trait System: Host + Files<File = File> + Env {}
 
 impl<H: Host + Files<File = File> + Env> System for H {}
 
-/// The jobs of a pool to which files are lent.
-pub(crate) trait LendsFiles<H: Runtime>: Job
-    + Carries<ReadJob<File, H>>
-    + Carries<WriteJob<File, H>> {}
-
-impl<H: Runtime, J: Job + Carries<ReadJob<File, H>> + Carries<WriteJob<File, H>>> LendsFiles<H>
-    for J {}
-
-/// A file that is lent to a pool whose jobs are of type `J`.
-pub(crate) type Lent<J, H> = Unblock<File, (), J, H>;
-
-/// A pool of two workers. (The tests are written over any pool of files, which costs less to prove: docs/GATE.md.)
-pub(crate) fn pool<H: Host>(rt: H) -> io::Result<Executor<FileJobs<H>, H>> {
-    Ok(Executor::new(rt, Some("2"))?)
-}
+/// A file that is lent.
+pub(crate) type Lent<H> = Unblock<File, (), FileJobs<H>, H>;
 
 /// A folder for files.
 #[derive(Drop)]
@@ -46,6 +33,11 @@ impl<H: System> Place<H> {
         path.push(self.folder)?;
         path.push(name)?;
         Ok(path)
+    }
+
+    /// A pool of two workers.
+    pub(crate) fn executor(&self) -> io::Result<Executor<FileJobs<H>, H>> {
+        Ok(Executor::new(self.rt, Some("2"))?)
     }
 
     /// A new file.

@@ -1,6 +1,6 @@
 //! Frames of `tokio_util` over lent files.
-use crate::files::{LendsFiles, Lent, Place, System, pool};
-use blocking::{AsyncRead, AsyncWrite, Executor, Host, Unblock};
+use crate::files::{Lent, Place, System};
+use blocking::{AsyncRead, AsyncWrite, Host, Unblock};
 use blocking_tokio::{CompatReader, CompatWriter};
 use bytes::Bytes;
 use futures::executor::block_on;
@@ -33,10 +33,11 @@ fn send<B: AsyncWrite + Drop, H: Host>(rt: &H, writer: B, payload: Bytes) -> io:
     Ok(frames.into_parts().io.is_shut())
 }
 
-// Whether two lines come as two frames.
-fn lines_come<J: LendsFiles<H>, H: System>(rt: H, pool: &Executor<J, H>) -> io::Result<bool> {
-    let file = Place::new(rt, "blocking_tokio_frames")?.open("lines", b"one\ntwo\n")?;
-    let reader: Lent<J, H> = Unblock::new(pool.try_clone()?, file);
+fn seen<H: System>(rt: H) -> io::Result<bool> {
+    let place = Place::new(rt, "blocking_tokio_frames")?;
+    let file = place.open("lines", b"one\ntwo\n")?;
+    let executor = place.executor()?;
+    let reader: Lent<H> = Unblock::new(executor, file);
     let lines = lines_of(&rt, reader)?;
     let mut text = String::new(rt.alloc());
     for line in &lines {
@@ -45,22 +46,15 @@ fn lines_come<J: LendsFiles<H>, H: System>(rt: H, pool: &Executor<J, H>) -> io::
             text.push('|')?;
         }
     }
-    Ok(text.as_str() == "one|two|")
-}
-
-// Whether a frame is written behind its length, and its writer shut down.
-fn is_sent<J: LendsFiles<H>, H: System>(rt: H, pool: &Executor<J, H>) -> io::Result<bool> {
-    let place = Place::new(rt, "blocking_tokio_frames")?;
-    let file = place.create("frame")?;
-    let writer: Lent<J, H> = Unblock::new(pool.try_clone()?, file);
+    let (executor, file) = (place.executor()?, place.create("frame")?);
+    let writer: Lent<H> = Unblock::new(executor, file);
     let is_shut = send(&rt, writer, Bytes::from_static(b"hello"))?;
-    Ok(is_shut && place.bytes("frame")?.as_slice() == b"\0\0\0\x05hello".as_slice())
+    let frame = place.bytes("frame")?;
+    Ok(text.as_str() == "one|two|" && is_shut && frame.as_slice() == b"\0\0\0\x05hello".as_slice())
 }
 
 #[test]
 fn frames_of_lent_files(rt: HostRuntime) -> Result<(), Fail> {
-    let pool = pool(rt)?;
-    assert!(rt; lines_come(rt, &pool)?);
-    assert!(rt; is_sent(rt, &pool)?);
+    assert!(rt; seen(rt)?);
     Ok(())
 }

@@ -1,6 +1,6 @@
 //! What the kit reads and writes, as readers and writers of this library.
-use crate::files::{LendsFiles, Lent, Place, System, pool};
-use blocking::{AsyncReadExt, AsyncWriteExt, Copier, Executor, Host, Unblock};
+use crate::files::{Lent, Place, System};
+use blocking::{AsyncReadExt, AsyncWriteExt, Copier, Host, Unblock};
 use blocking_tokio::FromTokio;
 use bytes::BytesMut;
 use futures::TryFutureExt;
@@ -11,11 +11,11 @@ use std::test::Fail;
 use tokio::io::{duplex, read_to_end, write_all};
 
 // Copies what the far end of a pipe of the kit's sends to a lent file.
-fn received<J: LendsFiles<H>, H: System>(rt: H, pool: &Executor<J, H>) -> io::Result<bool> {
+fn received<H: System>(rt: H) -> io::Result<bool> {
     let place = Place::new(rt, "blocking_tokio_from")?;
     let (near, far) = duplex(rt.alloc(), 3)?;
-    let file = place.create("to")?;
-    let to: Lent<J, H> = Unblock::new(pool.try_clone()?, file);
+    let (executor, file) = (place.executor()?, place.create("to")?);
+    let to: Lent<H> = Unblock::new(executor, file);
     let copier = Copier::new(rt.alloc(), FromTokio::new(near), to, 4)?;
     let sending = write_all(far, b"hello".as_slice()).map_ok(|_| ());
     let (copied, sent) = block_on(&rt, join(copier, sending))?;
@@ -48,8 +48,7 @@ fn read_and_written<H: Host>(rt: &H) -> io::Result<bool> {
 
 #[test]
 fn pipe_of_the_kit_goes_to_a_lent_file(rt: HostRuntime) -> Result<(), Fail> {
-    let pool = pool(rt)?;
-    assert!(rt; received(rt, &pool)?);
+    assert!(rt; received(rt)?);
     Ok(())
 }
 

@@ -1,6 +1,6 @@
 //! The lines of a file that is lent, by the kit's `BufReader`.
-use crate::files::{LendsFiles, Lent, Place, System, pool};
-use blocking::{AsyncRead, Executor, Host, Unblock};
+use crate::files::{Lent, Place, System};
+use blocking::{AsyncRead, Host, Unblock};
 use blocking_tokio::CompatReader;
 use futures::TryStreamExt;
 use futures::executor::block_on;
@@ -16,11 +16,10 @@ fn lines_of<A: AsyncRead + Drop, H: Host>(rt: &H, reader: A) -> io::Result<Vec<S
     block_on(rt, lines(rt.alloc(), reader).try_collect(rt.alloc()))?
 }
 
-// Whether the lines of a file come, of which one is empty and one has no end.
-fn lines_come<J: LendsFiles<H>, H: System>(rt: H, pool: &Executor<J, H>) -> io::Result<bool> {
+fn seen<H: System>(rt: H) -> io::Result<bool> {
     let place = Place::new(rt, "blocking_tokio_lines")?;
     let file = place.open("three", b"one\n\nand three\r\nno end")?;
-    let reader: Lent<J, H> = Unblock::new(pool.try_clone()?, file);
+    let reader: Lent<H> = Unblock::new(place.executor()?, file);
     let seen = lines_of(&rt, reader)?;
     let mut text = String::new(rt.alloc());
     for line in &seen {
@@ -32,7 +31,6 @@ fn lines_come<J: LendsFiles<H>, H: System>(rt: H, pool: &Executor<J, H>) -> io::
 
 #[test]
 fn lines_of_a_lent_file(rt: HostRuntime) -> Result<(), Fail> {
-    let pool = pool(rt)?;
-    assert!(rt; lines_come(rt, &pool)?);
+    assert!(rt; seen(rt)?);
     Ok(())
 }

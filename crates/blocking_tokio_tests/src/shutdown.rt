@@ -1,6 +1,6 @@
 //! A writer that is shut down, and faults as the kit has them.
-use crate::files::{LendsFiles, Lent, Place, System, pool};
-use blocking::{AsyncRead, AsyncWrite, Executor, Host, Unblock};
+use crate::files::{Lent, Place, System};
+use blocking::{AsyncRead, AsyncWrite, Host, Unblock};
 use blocking_tokio::{CompatReader, CompatWriter};
 use futures::executor::block_on;
 use std::io;
@@ -38,26 +38,23 @@ fn read_past_the_end<A: AsyncRead + Drop, H: Host>(rt: &H, reader: A) -> io::Res
     }
 }
 
-// Whether a write behind a shutdown fails as it must, and what came before is in the file.
-fn write_fails<J: LendsFiles<H>, H: System>(rt: H, pool: &Executor<J, H>) -> io::Result<bool> {
+fn fails_as_told<H: System>(rt: H) -> io::Result<bool> {
     let place = Place::new(rt, "blocking_tokio_shutdown")?;
-    let file = place.create("to")?;
-    let writer: Lent<J, H> = Unblock::new(pool.try_clone()?, file);
-    let after = written_after_a_shutdown(&rt, writer)?;
-    Ok(after == Some(ErrorKind::BrokenPipe) && place.bytes("to")?.as_slice() == b"kept".as_slice())
-}
-
-// Whether a read past the end fails as it must.
-fn read_fails<J: LendsFiles<H>, H: System>(rt: H, pool: &Executor<J, H>) -> io::Result<bool> {
-    let file = Place::new(rt, "blocking_tokio_shutdown")?.open("three", b"abc")?;
-    let reader: Lent<J, H> = Unblock::new(pool.try_clone()?, file);
-    Ok(read_past_the_end(&rt, reader)? == ErrorKind::UnexpectedEof)
+    let (to, three) = (place.create("to")?, place.open("three", b"abc")?);
+    let (writers, readers) = (place.executor()?, place.executor()?);
+    let writer: Lent<H> = Unblock::new(writers, to);
+    let after = written_after_a_shutdown(&rt, writer);
+    let reader: Lent<H> = Unblock::new(readers, three);
+    let (after, past) = (after?, read_past_the_end(&rt, reader)?);
+    Ok(
+        after == Some(ErrorKind::BrokenPipe)
+            && past == ErrorKind::UnexpectedEof
+            && place.bytes("to")?.as_slice() == b"kept".as_slice(),
+    )
 }
 
 #[test]
 fn shut_writer_takes_nothing(rt: HostRuntime) -> Result<(), Fail> {
-    let pool = pool(rt)?;
-    assert!(rt; write_fails(rt, &pool)?);
-    assert!(rt; read_fails(rt, &pool)?);
+    assert!(rt; fails_as_told(rt)?);
     Ok(())
 }

@@ -1,5 +1,5 @@
 //! The items of a lent iterator, sent into a channel of the kit's.
-use blocking::{Carries, Executor, Host, ItemJob, Items, Job, Unblock};
+use blocking::{Executor, Host, ItemJob, Items, Unblock};
 use futures::channel::mpsc;
 use futures::executor::block_on;
 use futures::future::join;
@@ -9,16 +9,12 @@ use std::io::ErrorKind;
 use std::ops::Range;
 use std::test::Fail;
 
-type Numbers<H> = ItemJob<Range<u32>, u32, H>;
+type Numbers<H> = Items<Range<u32>, u32, H>;
 
 // Whether as many numbers as there are come through a channel for two, and in order.
-fn comes_through<J: Job + Carries<Numbers<H>>, H: Host>(
-    rt: H,
-    pool: &Executor<J, H>,
-    count: u32,
-) -> io::Result<bool> {
-    let executor = pool.try_clone()?;
-    let numbers: Items<Range<u32>, u32, H, J> = Unblock::with_capacity(3, executor, 0..count);
+fn comes_through<H: Host>(rt: H, count: u32) -> io::Result<bool> {
+    let executor: Executor<ItemJob<Range<u32>, u32, H>, H> = Executor::new(rt, Some("1"))?;
+    let numbers: Numbers<H> = Unblock::with_capacity(3, executor, 0..count);
     let (sender, receiver) = mpsc::channel(rt.alloc(), 2)?;
     let sender = sender.sink_map_err(|_| io::Error::from(ErrorKind::BrokenPipe));
     let sending = numbers.err_into::<_, _, io::Error>().forward(sender);
@@ -29,7 +25,6 @@ fn comes_through<J: Job + Carries<Numbers<H>>, H: Host>(
 
 #[test]
 fn items_come_through_a_channel(rt: HostRuntime) -> Result<(), Fail> {
-    let pool: Executor<Numbers<HostRuntime>, HostRuntime> = Executor::new(rt, Some("1"))?;
-    assert!(rt; comes_through(rt, &pool, 1000)?);
+    assert!(rt; comes_through(rt, 1000)?);
     Ok(())
 }
