@@ -26,7 +26,6 @@ impl Call for Double {
     }
 }
 
-// What is tested stands over any pool of such calls, which costs less to prove (docs/GATE.md).
 type Doublers<H> = Executor<CallJob<Double, H>, H>;
 
 fn pool<H: Host>(rt: H) -> io::Result<Doublers<H>> {

@@ -154,7 +154,7 @@ fn has_four_workers<J: Job + Carries<CallJob<Sleep<H>, H>>, H: Host + std::fs::F
     Ok(others.begin(executor, 4, 300)? && come_to_be(&rt, 4)? && others.is_served()?)
 }
 
-// How long the threads had a processor within a second, and whether the same workers were idle before and behind it.
+// How long the threads had a processor within a second, and whether three workers were idle before it and behind it.
 fn nanos_of_a_second<J: Job, H: Host + std::fs::Files>(
     rt: &H,
     executor: &Executor<J, H>,
