@@ -294,21 +294,30 @@ impl<J: Job, H: Runtime> Executor<J, H> {
         let mut held = self.enter();
         let (took, bell) = held.arrive(starter);
         self.leave(held, bell);
-        let mut next = took;
+        let Some(mut took) = took else {
+            return;
+        };
         for _ in rt.forever() {
-            let Some(took) = next else {
-                return;
-            };
-            next = match took {
-                Took::Run(turn, job) => {
-                    let finish = run(&turn, job, &rt);
-                    Some(self.end(turn, finish, starter))
+            took = match took {
+                Took::Run(turn, mut job) => {
+                    let finish = if run(&turn, &mut job, &rt) {
+                        Finish::Waiting(job)
+                    } else {
+                        drop(job);
+                        Finish::Done
+                    };
+                    self.end(turn, finish, starter)
                 }
                 Took::Drop(turn, job) => {
                     drop(job);
-                    Some(self.end(turn, Finish::Dropped, starter))
+                    self.end(turn, Finish::Dropped, starter)
                 }
-                Took::Idle(pass) => self.wait(pass, starter),
+                Took::Idle(pass) => {
+                    let Some(took) = self.wait(pass, starter) else {
+                        return;
+                    };
+                    took
+                }
             };
         }
         unreachable!()
@@ -367,13 +376,13 @@ impl<J: Job, H: Runtime> Executor<J, H> {
     }
 }
 
-// Runs a job until it waits or is done. One that is done is dropped.
-fn run<J: Job, R: Wait>(turn: &Turn, mut job: J, rt: &R) -> Finish<J> {
+// Runs a job, where it is, until it waits or is done. Whether it waits.
+fn run<J: Job, R: Wait>(turn: &Turn, job: &mut J, rt: &R) -> bool {
     for _ in rt.forever() {
         match job.step(turn.job()) {
             JobStep::Again => {}
-            JobStep::Waiting => return Finish::Waiting(job),
-            JobStep::Done => return Finish::Done,
+            JobStep::Waiting => return true,
+            JobStep::Done => return false,
         }
     }
     unreachable!()

@@ -36,11 +36,11 @@ session_acts tasks owners h read new_read at owner new_owner seen found acts =
   where
     same : seen ≡ None → new_read ≡ read → new_owner ≡ owner → IsDone None (core.Session h read)
         tasks owners seen (core.Session h new_read) tasks (slice_set owners h new_owner)
-    same none job lane = (
+    same none job stays = (
       none,
       ap (core.Session h) job,
       refl,
-      ap (slice_set owners h) lane ∙ set_same owners h owner found,
+      ap (slice_set owners h) stays ∙ set_same owners h owner found,
     )
 
     by : (at : Stage) → IsActedFor (session_step at read) read owner seen new_read new_owner
