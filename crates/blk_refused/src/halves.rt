@@ -138,14 +138,17 @@ impl<A: AsyncRead + Drop, B: AsyncWrite + Drop> Future for LeftCopy<A, B> {
     }
 }
 
-// Leaves a copy at this moment. Whether it came to that.
+// Begins a copy, and leaves it at this moment. Whether it came to that.
 fn leave<A: AsyncRead + Drop, B: AsyncWrite + Drop, H: Host>(
     rt: H,
-    copier: Copier<A, B>,
+    reader: A,
+    writer: B,
     moment: Moment,
 ) -> io::Result<bool>
-    requires { ⟦<Copier<A, B> as Future>⟧.can_poll copier }
+    requires reader_open { A.closed reader → ⊥ }
+    requires writer_open { B.closed writer → ⊥ }
 {
+    let copier = Copier::new(rt.alloc(), reader, writer, PIECE)?;
     let wanted = match moment {
         Moment::Begin => return Ok(true),
         Moment::Waits => 0,
@@ -174,7 +177,7 @@ impl<
         })
     }
 
-    // Begins a copy between two new handles, and leaves it at this moment. Whether it came to that.
+    // Leaves a copy between two new handles at this moment. Whether it came to that.
     fn copy(&self, moment: Moment) -> io::Result<bool> {
         let input = self.lends(GIVEN)?;
         let output = self.lends(TAKEN)?;
@@ -182,8 +185,7 @@ impl<
         let writers = self.executor.try_clone()?;
         let reader: Reader<Byte, H, J> = Unblock::with_capacity(CAPACITY, readers, input);
         let writer: Writer<Byte, H, J> = Unblock::with_capacity(CAPACITY, writers, output);
-        let copier = Copier::new(self.rt.alloc(), reader, writer, PIECE)?;
-        leave(self.rt, copier, moment)
+        leave(self.rt, reader, writer, moment)
     }
 
     // Whether before long no handle is left.
@@ -224,13 +226,16 @@ impl<
     }
 }
 
-/// Leaves so many copies halfway, one after another. What of it is wrong, if anything is. (`scripts/peaks` looks at how much memory that took.)
-pub(crate) fn halves<H: Host>(rt: H, rounds: u32) -> io::Result<Option<&'static str>> {
+// Leaves so many copies halfway, and then makes a call. What of it is wrong, if anything is.
+fn play<J, H: Host>(
+    rt: H,
+    executor: Executor<J, H>,
+    rounds: u32,
+) -> io::Result<Option<&'static str>>
+where
+    J: Job + Carries<ReadJob<Byte, H>> + Carries<WriteJob<Byte, H>> + Carries<CallJob<Echo, H>>,
+{
     let gate = Arc::new(rt.alloc(), Gate::new())?;
-    let executor: Executor<Work<H>, H> = match Executor::new(rt, Some(LIMIT)) {
-        Ok(executor) => executor,
-        Err(_) => return Ok(Some("there is no executor")),
-    };
     let lender = Lender { rt, gate, executor };
     Ok(if !lender.leaves_all(rounds)? {
         Some("a copy isn't left, or its handles or jobs stay")
@@ -239,4 +244,12 @@ pub(crate) fn halves<H: Host>(rt: H, rounds: u32) -> io::Result<Option<&'static 
     } else {
         None
     })
+}
+
+/// Leaves so many copies halfway, one after another. What of it is wrong, if anything is. (`scripts/peaks` looks at how much memory that took.)
+pub(crate) fn halves<H: Host>(rt: H, rounds: u32) -> io::Result<Option<&'static str>> {
+    match Executor::<Work<H>, H>::new(rt, Some(LIMIT)) {
+        Ok(executor) => play(rt, executor, rounds),
+        Err(_) => Ok(Some("there is no executor")),
+    }
 }

@@ -13,10 +13,11 @@ pub(crate) const LOOKS: u32 = 20_000_000;
 /// How many bytes there are. Byte i is i as `u8`.
 pub(crate) const BYTES: u64 = 1_000;
 
-/// What keeps jobs from going on while it is shut, and counts the handles that are gone.
+/// What keeps jobs from going on while it is shut, and counts the calls of its handles, and those of them that are gone.
 #[derive(Drop)]
 pub(crate) struct Gate {
     is_open: AtomicBool,
+    calls: AtomicUsize,
     gone: AtomicUsize,
 }
 
@@ -24,6 +25,7 @@ impl Gate {
     pub(crate) fn new() -> Gate {
         Gate {
             is_open: AtomicBool::new(true),
+            calls: AtomicUsize::new(0),
             gone: AtomicUsize::new(0),
         }
     }
@@ -36,6 +38,19 @@ impl Gate {
         self.is_open.store(true, Ordering::SeqCst);
     }
 
+    pub(crate) fn is_open(&self) -> bool {
+        self.is_open.load(Ordering::SeqCst)
+    }
+
+    /// How often one of its handles was read, written, flushed or asked for an item.
+    pub(crate) fn calls(&self) -> usize {
+        self.calls.load(Ordering::SeqCst)
+    }
+
+    fn count_call(&self) {
+        let _ = self.calls.fetch_add(1, Ordering::SeqCst);
+    }
+
     /// How many of its handles are gone.
     pub(crate) fn gone(&self) -> usize {
         self.gone.load(Ordering::SeqCst)
@@ -44,7 +59,7 @@ impl Gate {
     /// Waits until the gate is open. (at one that nobody opens, no longer than anybody looks)
     pub(crate) fn pass(&self) {
         for _ in 0..LOOKS {
-            if self.is_open.load(Ordering::SeqCst) {
+            if self.is_open() {
                 return;
             }
             thread::yield_now();
@@ -95,16 +110,19 @@ impl Gated {
 
 impl Read for Gated {
     fn read(&mut self, buf: &mut [u8]) -> io::Result<usize> {
+        self.gate.count_call();
         self.cursor.read(buf)
     }
 }
 
 impl Write for Gated {
     fn write(&mut self, buf: &[u8]) -> io::Result<usize> {
+        self.gate.count_call();
         self.cursor.write(buf)
     }
 
     fn flush(&mut self) -> io::Result<()> {
+        self.gate.count_call();
         self.cursor.flush()
     }
 }
@@ -115,6 +133,7 @@ impl Iterator for Gated {
 
     fn next(&mut self) -> Option<u8> {
         let mut one = [0u8; 1];
+        self.gate.count_call();
         match self.cursor.read(&mut one) {
             Ok(1) => Some(one[0]),
             _ => None,

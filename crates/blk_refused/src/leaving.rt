@@ -1,19 +1,14 @@
 //! Owners that leave while their jobs wait, where no more workers can be had.
 use crate::handle::{Gate, LOOKS};
 use crate::kind::Kind;
-use crate::kinds::Carrier;
 use crate::mark::{COUNTED, GRANTED, mark};
-use crate::scene::{Scene, rests};
-use blocking::{Executor, Host, Runtime, set_max_blocking_threads};
-use blocking_core::pool::Job;
+use crate::scene::Scene;
+use blocking::Host;
 use std::sync::Arc;
 use std::{io, thread};
 
 // How many owners leave at once.
-const OWNERS: usize = 100;
-
-// So little that each job waits before long: for room, for bytes or for items.
-const NARROW: usize = 4;
+const OWNERS: usize = 300;
 
 /// Where the workers are when the owners leave.
 #[derive(Clone, Copy)]
@@ -39,38 +34,29 @@ impl Staff {
 
 // Many owners, whose handles have one gate, and one more, for whose call the worker may be kept.
 #[derive(Drop)]
-struct Crowd<J: Job, H: Runtime> {
-    executor: Executor<J, H>,
+struct Crowd<S: Scene> {
     gate: Arc<Gate>,
-    owners: Vec<Scene<J, H>>,
-    busy: Scene<J, H>,
+    owners: Vec<S>,
+    busy: S,
 }
 
-impl<J: Carrier<H>, H: Host> Crowd<J, H> {
-    fn new(rt: H, executor: Executor<J, H>) -> io::Result<Crowd<J, H>> {
+impl<S: Scene> Crowd<S> {
+    fn new<H: Host>(rt: H, busy: S) -> io::Result<Crowd<S>> {
         let gate = Arc::new(rt.alloc(), Gate::new())?;
         let owners = Vec::with_capacity(rt.alloc(), OWNERS)?;
-        let busy = Scene::new(rt, executor.try_clone()?, NARROW)?;
-        Ok(Crowd {
-            executor,
-            gate,
-            owners,
-            busy,
-        })
+        Ok(Crowd { gate, owners, busy })
     }
 
     // Whether a session of this kind begins for each owner, and all their jobs come to wait.
     fn comes(&mut self, kind: Kind) -> io::Result<bool> {
         for _ in 0..OWNERS {
-            let rt = self.executor.runtime();
-            let theirs = self.executor.try_clone()?;
-            let mut scene = Scene::at(rt, theirs, NARROW, Arc::try_clone(&self.gate)?)?;
-            if !scene.begin(kind)? {
+            let mut owner = self.busy.another(Arc::try_clone(&self.gate)?)?;
+            if !owner.begin(kind)? {
                 return Ok(false);
             }
-            self.owners.push(scene)?;
+            self.owners.push(owner)?;
         }
-        Ok(rests(&self.executor))
+        Ok(self.busy.rests())
     }
 
     // Whether the workers come to be so.
@@ -78,7 +64,7 @@ impl<J: Carrier<H>, H: Host> Crowd<J, H> {
         match staff {
             Staff::Inside => self.keeps_busy(),
             Staff::Short => {
-                set_max_blocking_threads(&self.executor, 4);
+                self.busy.allow_more();
                 self.keeps_busy()
             }
             Staff::Gone => Ok(self.counts_come_to(|workers, _| workers == 0)),
@@ -95,7 +81,7 @@ impl<J: Carrier<H>, H: Host> Crowd<J, H> {
         requires { F.IsAlwaysCallable is_so }
     {
         for _ in 0..LOOKS {
-            let counts = self.executor.counts();
+            let counts = self.busy.counts();
             if is_so(counts.workers, counts.running) {
                 return true;
             }
@@ -107,7 +93,7 @@ impl<J: Carrier<H>, H: Host> Crowd<J, H> {
     // Whether all owners leave, and each of their jobs stands in the queue then, with its handle.
     fn leaves(&mut self) -> bool {
         self.owners.clear();
-        self.executor.counts().queued == OWNERS && self.gate.gone() == 0
+        self.busy.counts().queued == OWNERS && self.gate.gone() == 0
     }
 
     // Whether all handles go before long.
@@ -130,20 +116,21 @@ impl<J: Carrier<H>, H: Host> Crowd<J, H> {
 }
 
 /// Many owners of this kind leave. Where a worker is there, it drops all their handles, though no other can be had; where none is, their jobs stay queued
-/// until a later call finds one. What of it is wrong, if anything is.
-pub(crate) fn leave<J: Carrier<H>, H: Host + Print>(
-    executor: Executor<J, H>,
+/// until a later call finds one. No handle is called again. What of it is wrong, if anything is.
+pub(crate) fn leave<S: Scene, H: Host + Print>(
+    rt: H,
+    scene: S,
     kind: Kind,
     staff: Staff,
 ) -> io::Result<Option<&'static str>> {
-    let rt = executor.runtime();
-    let mut crowd = Crowd::new(rt, executor)?;
+    let mut crowd = Crowd::new(rt, scene)?;
     if !crowd.comes(kind)? {
         return Ok(Some("a job doesn't come to wait"));
     }
     if !crowd.is_staffed(staff)? {
         return Ok(Some("the workers don't come to be so"));
     }
+    let calls = crowd.gate.calls();
     mark(&rt, COUNTED)?;
     if !crowd.leaves() {
         return Ok(Some("a job isn't queued"));
@@ -157,8 +144,11 @@ pub(crate) fn leave<J: Carrier<H>, H: Host + Print>(
     }
     let goes = crowd.goes();
     mark(&rt, GRANTED)?;
-    if !goes || !rests(&crowd.executor) {
+    if !goes || !crowd.busy.rests() {
         return Ok(Some("a handle is left"));
+    }
+    if crowd.gate.calls() != calls {
+        return Ok(Some("a handle is called after its owner left"));
     }
     Ok(None)
 }

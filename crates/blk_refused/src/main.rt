@@ -13,8 +13,11 @@
 //! | `whole` | a read to the end |
 //! | `ends KIND`, `sweeps KIND`, `stops KIND`, `drops KIND` | a session, which has begun, comes to its end, does so while its pool is swept again and again, is stopped, or loses its owner, while all is refused |
 //! | `inside KIND`, `short KIND`, `gone KIND` | many owners, whose jobs wait, leave: where the one worker is inside a call and there may be no other; where another may be asked for; or where none is left |
+//! | `marked` | jobs that wait are swept, once they bear a mark, while all is refused |
 //! | `leaves` | calls are awaited, cancelled, dropped and detached while all is refused |
 #![tactic(auto)]
+
+ghost use Rattle.std.specs.Prelude.{◌<◌};
 
 mod calls;
 mod halves;
@@ -23,6 +26,7 @@ mod kind;
 mod kinds;
 mod leaving;
 mod mark;
+mod marked;
 mod passing;
 mod running;
 mod scene;
@@ -33,6 +37,7 @@ use crate::kind::Kind;
 use crate::kinds::{Carrier, Kinds};
 use crate::leaving::Staff;
 use crate::running::End;
+use crate::scene::{Lent, NARROW, Scene, WIDE};
 use blocking::{Executor, Host};
 use std::process::ExitCode;
 use std::{env, io};
@@ -73,6 +78,7 @@ enum Scenario {
     Whole,
     Runs(Kind, End),
     Left(Kind, Staff),
+    Marked,
     Leaves,
 }
 
@@ -93,6 +99,7 @@ impl Scenario {
             ),
             "whole" => Scenario::Whole,
             "leaves" => Scenario::Leaves,
+            "marked" => Scenario::Marked,
             _ => Scenario::of_kind(name, Kind::by_name(first)?)?,
         })
     }
@@ -105,6 +112,16 @@ impl Scenario {
         }
     }
 
+    // How much a pipe holds.
+    fn capacity(self) -> usize
+        ensures { 0 < result }
+    {
+        match self {
+            Scenario::Begins(_, None) | Scenario::Whole => WIDE,
+            _ => NARROW,
+        }
+    }
+
     // What of it is wrong, if anything is.
     fn play<H: Host + Print>(self, rt: H) -> io::Result<Option<&'static str>> {
         match self {
@@ -114,31 +131,39 @@ impl Scenario {
             Scenario::Passes(clients, rounds) => passing::passes(rt, clients, rounds),
             Scenario::Halves(rounds) => halves::halves(rt, rounds),
             Scenario::Leaves => calls::leaves(rt),
+            Scenario::Marked => marked::marked(rt),
             Scenario::Begins(..) | Scenario::Whole | Scenario::Runs(..) | Scenario::Left(..) => {
                 // (one worker at most, which isn't started yet)
                 match Executor::<Kinds<H>, H>::new(rt, Some("1")) {
-                    Ok(executor) => self.lend(executor),
+                    Ok(executor) => self.lend(rt, executor),
                     Err(_) => Ok(Some("there is no executor")),
                 }
             }
         }
     }
 
+    // The same of what is played over a lent handle. (over any job type: what is said of types made of types is long)
     fn lend<J: Carrier<H>, H: Host + Print>(
         self,
+        rt: H,
         executor: Executor<J, H>,
     ) -> io::Result<Option<&'static str>> {
+        self.show(rt, Lent::new(rt, executor, self.capacity())?)
+    }
+
+    fn show<S: Scene, H: Host + Print>(self, rt: H, scene: S) -> io::Result<Option<&'static str>> {
         match self {
-            Scenario::Begins(kind, older) => session::begins(executor, kind, older),
-            Scenario::Runs(kind, end) => running::runs(executor, kind, end),
-            Scenario::Left(kind, staff) => leaving::leave(executor, kind, staff),
-            Scenario::Whole => whole::reads(executor),
+            Scenario::Begins(kind, older) => session::begins(&rt, scene, kind, older),
+            Scenario::Runs(kind, end) => running::runs(&rt, scene, kind, end),
+            Scenario::Left(kind, staff) => leaving::leave(rt, scene, kind, staff),
+            Scenario::Whole => whole::reads(rt, scene),
             Scenario::Executor
             | Scenario::Calls(_)
             | Scenario::Clients(_)
             | Scenario::Passes(..)
             | Scenario::Halves(_)
-            | Scenario::Leaves => Ok(None),
+            | Scenario::Leaves
+            | Scenario::Marked => Ok(None),
         }
     }
 }

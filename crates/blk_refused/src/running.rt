@@ -1,14 +1,9 @@
 //! Sessions that have begun, and are ended while all memory and all threads are refused.
 use crate::handle::BYTES;
 use crate::kind::{Came, JUMPED, Kind, SOUGHT, WRITTEN};
-use crate::kinds::Carrier;
 use crate::mark::{GRANTED, REFUSED, mark};
 use crate::scene::Scene;
-use blocking::{Executor, Host};
 use std::io;
-
-// So little that jobs and owners wait for each other again and again.
-const NARROW: usize = 4;
 
 // How many writes are made behind the first.
 const WRITES: u64 = 200;
@@ -43,20 +38,19 @@ impl End {
 }
 
 /// Ends a session of this kind so. What of it is wrong, if anything is.
-pub(crate) fn runs<J: Carrier<H>, H: Host + Print>(
-    executor: Executor<J, H>,
+pub(crate) fn runs<S: Scene, H: Print>(
+    rt: &H,
+    mut scene: S,
     kind: Kind,
     end: End,
 ) -> io::Result<Option<&'static str>> {
-    let rt = executor.runtime();
-    let mut scene = Scene::new(rt, executor, NARROW)?;
     if let (Kind::Operate, End::Own | End::Swept) = (kind, end) {
         return operates(rt, &mut scene, end);
     }
     if !scene.begin(kind)? {
         return Ok(Some("the session didn't begin"));
     }
-    mark(&rt, REFUSED)?;
+    mark(rt, REFUSED)?;
     scene.open();
     let wrong = match end {
         End::Own | End::Swept => goes_on(&mut scene, kind, end)?,
@@ -70,7 +64,7 @@ pub(crate) fn runs<J: Carrier<H>, H: Host + Print>(
         }
     };
     let rests = scene.rests();
-    mark(&rt, GRANTED)?;
+    mark(rt, GRANTED)?;
     match wrong {
         None if !rests => Ok(Some("a job is queued, or runs, in the end")),
         _ => Ok(wrong),
@@ -78,15 +72,15 @@ pub(crate) fn runs<J: Carrier<H>, H: Host + Print>(
 }
 
 // An operation is awaited, and the handle taken back after it.
-fn operates<J: Carrier<H>, H: Host + Print>(
-    rt: H,
-    scene: &mut Scene<J, H>,
+fn operates<S: Scene, H: Print>(
+    rt: &H,
+    scene: &mut S,
     end: End,
 ) -> io::Result<Option<&'static str>> {
     let came = scene.operate(end.is_swept())?;
     let handle = scene.take_back()?;
     let rests = scene.rests();
-    mark(&rt, GRANTED)?;
+    mark(rt, GRANTED)?;
     Ok(match (came, handle) {
         (Came::Got(0), Some(_)) if rests => None,
         _ => Some("the operation doesn't come to its end"),
@@ -94,11 +88,7 @@ fn operates<J: Carrier<H>, H: Host + Print>(
 }
 
 // Makes a call, behind a sweep where that is wanted: it finds no job, since the session has its owner.
-fn calls<J: Carrier<H>, H: Host>(
-    scene: &mut Scene<J, H>,
-    kind: Kind,
-    end: End,
-) -> io::Result<Came> {
+fn calls<S: Scene>(scene: &mut S, kind: Kind, end: End) -> io::Result<Came> {
     if end.is_swept() && scene.sweep() > 0 {
         return Ok(Came::Wrong);
     }
@@ -106,11 +96,7 @@ fn calls<J: Carrier<H>, H: Host>(
 }
 
 // Makes the calls that are left of a session. What of them is wrong, if anything is.
-fn goes_on<J: Carrier<H>, H: Host>(
-    scene: &mut Scene<J, H>,
-    kind: Kind,
-    end: End,
-) -> io::Result<Option<&'static str>> {
+fn goes_on<S: Scene>(scene: &mut S, kind: Kind, end: End) -> io::Result<Option<&'static str>> {
     // (the first byte and the first item came when the session began, and a seek is polled on)
     let mut place = match kind {
         Kind::Seek => 0,
@@ -133,10 +119,7 @@ fn goes_on<J: Carrier<H>, H: Host>(
 }
 
 // Whether the handle is where the session has to leave it, with its owner.
-fn is_over<J: Carrier<H>, H: Host>(
-    scene: &mut Scene<J, H>,
-    kind: Kind,
-) -> io::Result<Option<&'static str>> {
+fn is_over<S: Scene>(scene: &mut S, kind: Kind) -> io::Result<Option<&'static str>> {
     if !scene.flush()? {
         return Ok(Some("the flush failed"));
     }

@@ -1,35 +1,25 @@
 //! Sessions that begin, each maybe behind one of another kind that it stops first.
 use crate::kind::{Came, Kind, WRITTEN};
-use crate::kinds::Carrier;
 use crate::mark::{COUNTED, GRANTED, mark};
 use crate::scene::Scene;
-use blocking::{Executor, Host};
 use std::io;
 
-// For the whole handle, in few pieces of memory.
-const WIDE: usize = 131_072;
-
-// So little that a job which reads ahead, or gives items, comes nowhere near the handle's end.
-const NARROW: usize = 4;
-
 /// Has a session of this kind begun. What of it is wrong, if anything is.
-pub(crate) fn begins<J: Carrier<H>, H: Host + Print>(
-    executor: Executor<J, H>,
+pub(crate) fn begins<S: Scene, H: Print>(
+    rt: &H,
+    mut scene: S,
     kind: Kind,
     older: Option<Kind>,
 ) -> io::Result<Option<&'static str>> {
-    let capacity = if older.is_some() { NARROW } else { WIDE };
-    let rt = executor.runtime();
-    let mut scene = Scene::new(rt, executor, capacity)?;
     if let Some(older) = older {
         if !scene.begin(older)? {
             return Ok(Some("the older session didn't begin"));
         }
         scene.open();
     }
-    mark(&rt, COUNTED)?;
+    mark(rt, COUNTED)?;
     let came = scene.call(kind)?;
-    mark(&rt, GRANTED)?;
+    mark(rt, GRANTED)?;
     let wrong = match came {
         Came::Got(_) => None,
         Came::Refused(why) => {
@@ -45,10 +35,7 @@ pub(crate) fn begins<J: Carrier<H>, H: Host + Print>(
 }
 
 // What of a session that was refused is wrong, or of the next try, which has to go on where the handle was left.
-fn again<J: Carrier<H>, H: Host>(
-    scene: &mut Scene<J, H>,
-    kind: Kind,
-) -> io::Result<Option<&'static str>> {
+fn again<S: Scene>(scene: &mut S, kind: Kind) -> io::Result<Option<&'static str>> {
     let Some(place) = scene.place() else {
         return Ok(Some("the handle isn't with its owner"));
     };
@@ -66,10 +53,7 @@ fn again<J: Carrier<H>, H: Host>(
 }
 
 // What of a session's end is wrong.
-fn ends<J: Carrier<H>, H: Host>(
-    scene: &mut Scene<J, H>,
-    kind: Kind,
-) -> io::Result<Option<&'static str>> {
+fn ends<S: Scene>(scene: &mut S, kind: Kind) -> io::Result<Option<&'static str>> {
     let Some(handle) = scene.take_back()? else {
         return Ok(Some("the handle doesn't come back"));
     };

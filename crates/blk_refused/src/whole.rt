@@ -1,21 +1,16 @@
 //! A read to the end, whose text grows.
 use crate::handle::BYTES;
 use crate::kind::Came;
-use crate::kinds::Carrier;
 use crate::mark::{COUNTED, GRANTED, mark};
 use crate::scene::Scene;
-use blocking::{Executor, Host};
+use blocking::Host;
 use std::io;
 
-// For the whole handle.
-const WIDE: usize = 131_072;
-
 /// Reads to the end. Where memory is wanting, no byte that came is lost, and the next try reads the rest. What of it is wrong, if anything is.
-pub(crate) fn reads<J: Carrier<H>, H: Host + Print>(
-    executor: Executor<J, H>,
+pub(crate) fn reads<S: Scene, H: Host + Print>(
+    rt: H,
+    mut scene: S,
 ) -> io::Result<Option<&'static str>> {
-    let rt = executor.runtime();
-    let mut scene = Scene::new(rt, executor, WIDE)?;
     let mut text = Vec::new(rt.alloc());
     mark(&rt, COUNTED)?;
     let came = scene.read_all(&mut text)?;
