@@ -1,44 +1,28 @@
 -- What owners do that are lent to copiers.
-use Rattle.std.proofs.Common.{◌≡◌, ◌⊎◌, ⊎_elim, inl, inr, ℕ, zero, suc, ◌+◌, ◌<◌, ◌≤◌, ◌==◌, ◌&&◌}
-use Rattle.std.proofs.Common.{◌||◌, not, cond, if◌then◌else◌, List, [], ◌∷◌, ◌++◌, length, map, min}
-use Rattle.std.proofs.Common.{◌^◌, ◌-◌, Bool, true, false, refl, sym, ap, ◌∙◌, subst, Option, Some}
-use Rattle.std.proofs.Common.{None, arith}
-use Rattle.std.proofs.lemmas.Bool.Decides.{nat_tests}
+use Rattle.std.proofs.Common.{◌≡◌, ℕ, ◌<◌, ◌==◌, ◌&&◌, ◌||◌, not, if◌then◌else◌, List, [], ◌∷◌, ◌-◌}
+use Rattle.std.proofs.Common.{Bool, true, false, refl, sym, ap, ◌∙◌, subst, Some, None, arith}
 use Rattle.std.proofs.lemmas.Bool.{eqb-true}
-use Rattle.blocking_core.specs.declared.copy.CopyAction.TheVariants as action
-use Rattle.blocking_world_laws.specs.Copies.{acts_since, polls_of, is_by_either}
+use Rattle.blocking_world_laws.specs.Copies.{acts_since, polls_of}
 use Rattle.blocking_world_laws.specs.Lent.{links}
 use Rattle.blocking_world_laws.specs.Seen.{EachMayFollow, events, cut, own, acts_of_owner}
-use Rattle.blocking_world_laws.specs.Seen.{is_nothing, is_of_pool, is_some_worker, is_in_cut}
-use Rattle.blocking_world_laws.specs.Seen.{is_owner}
-use Rattle.blocking_world_laws.specs.Sessions.{under_way, call, is_made, is_owner_gone, is_closed}
-use Rattle.blocking_world_laws.specs.Sessions.{was_asked_inner, may_ask, rests}
-use Rattle.blocking_world_laws.specs.OwnerLaws.{OwnerLaw, OwnerLaws, OwnerActs, OwnerMayAct, Polls}
-use Rattle.blocking_world_laws.specs.OwnerLaws.{IsBegunAnew}
-use Rattle.blocking_world_laws.specs.declared.event.Act.TheVariants.{Linked, NoAction}
+use Rattle.blocking_world_laws.specs.Seen.{is_nothing, is_of_pool, is_owner}
+use Rattle.blocking_world_laws.specs.Sessions.{under_way, is_owner_gone}
+use Rattle.blocking_world_laws.specs.OwnerLaws.{OwnerLaw, OwnerLaws, OwnerActs, Polls}
 use Rattle.blocking_world_laws.specs.declared.event.Moment.{Moment}
-use Rattle.blocking_world_laws.specs.declared.event.Party.TheVariants.{Owner as ByOwner, Pool}
-use Rattle.blocking_world_copiers.specs.Copiers.{CopierState, shown, new_copier, belongs}
-use Rattle.blocking_world_copiers.specs.Copiers.{has_number, heard, copier_at, is_lent, hear_first}
-use Rattle.blocking_world_copiers.specs.Ties.{got_now, filled_now, IsOpen, InOrder, CopierOf}
-use Rattle.blocking_world_copiers.specs.Ties.{CopierBy, CopierAs, AreApart, AllAs}
-use Rattle.blocking_world_copiers.proofs.Words.{Act, Made, Asked, Got, Filled, Waits, Replied}
-use Rattle.blocking_world_copiers.proofs.Words.{HolderDropped, OwnerAction, Begin, CloseOwn}
-use Rattle.blocking_world_copiers.proofs.Words.{WakeJob, Drain, Fill, Receive, PollSlot, PollPlace}
-use Rattle.blocking_world_copiers.proofs.Words.{Say, Rest, next_of_owner_by, next_of_owner, Event}
-use Rattle.blocking_world_copiers.proofs.Words.{HandleCall, Read, Write, Flush, Met, seen_drain}
-use Rattle.blocking_world_copiers.proofs.Words.{seen_receive, seen_fill, drain, receive, fill}
-use Rattle.blocking_world_copiers.proofs.Words.{poll_slot, poll_place, inside, room_in, last_job}
-use Rattle.blocking_world_copiers.proofs.Words.{has_closed, has_finished, has_result, number, noted}
-use Rattle.blocking_world_copiers.proofs.Words.{IsWakeOf}
-use Rattle.blocking_world_copiers.proofs.Polls.{StepAs, poll_as, step_as, own_not, own_more}
-use Rattle.blocking_world_copiers.proofs.Copying.{reader_acts, writer_acts, asks_reader, asks_write}
-use Rattle.blocking_world_copiers.proofs.Copying.{asks_flush}
+use Rattle.blocking_world_laws.specs.declared.event.Party.TheVariants.{Owner as ByOwner}
+use Rattle.blocking_world_copiers.specs.Copiers.{CopierState, shown, belongs, heard, is_lent}
+use Rattle.blocking_world_copiers.specs.Copiers.{hear_first}
+use Rattle.blocking_world_copiers.specs.Ties.{got_now, filled_now, InOrder, CopierOf, CopierAs}
+use Rattle.blocking_world_copiers.specs.Ties.{AreApart, AllAs}
+use Rattle.blocking_world_copiers.proofs.Words.{Act, Made, Asked, Waits, Replied, HolderDropped}
+use Rattle.blocking_world_copiers.proofs.Words.{Rest, next_of_owner_by, Event, HandleCall, number}
+use Rattle.blocking_world_copiers.proofs.Polls.{StepAs, own_after, own_law}
+use Rattle.blocking_world_copiers.proofs.Copying.{reader_acts, writer_acts}
 use Rattle.blocking_world_copiers.proofs.OrderSteps.{reader_order, writer_order}
 use Rattle.blocking_world_copiers.proofs.Seen.{is_own, own_other, own_this, since_other, since_this}
-use Rattle.blocking_world_copiers.proofs.Seen.{polls_this, its_own, not_own, own_is, links_same}
-use Rattle.blocking_world_copiers.proofs.Stays.{MakesNext, IsOut, aside, all_aside, of_same}
-use Rattle.blocking_world_copiers.proofs.Stays.{makes_none, links_grow, flip}
+use Rattle.blocking_world_copiers.proofs.Seen.{polls_this, its_own, not_own}
+use Rattle.blocking_world_copiers.proofs.Stays.{MakesNext, aside, all_aside, of_same, makes_none}
+use Rattle.blocking_world_copiers.proofs.Stays.{links_grow, flip}
 
 -- ---- an owner that rests
 
@@ -72,14 +56,10 @@ goes_on cut act was does none =
 pub idle_as : (cut : List Event) → EachMayFollow OwnerLaw cut → under_way (own cut) ≡ None
     → IsIdle (own cut)
 idle_as [] laws = λ none. tt
-idle_as (now ∷ cut) laws = by (is_some_worker now.party) refl laws.0.acts (idle_as cut laws.1)
-  where
-    by : (b : Bool) → is_some_worker now.party ≡ b → OwnerMayAct b cut now
-        → (under_way (own cut) ≡ None → IsIdle (own cut)) → under_way (own (now ∷ cut)) ≡ None
-        → IsIdle (own (now ∷ cut))
-    by true is acts was = subst (λ l. under_way l ≡ None → IsIdle l) (sym (own_not now cut is)) was
-    by false is acts was = subst (λ l. under_way l ≡ None → IsIdle l) (sym (own_more now cut is))
-        (goes_on cut now.act was acts)
+idle_as (now ∷ cut) laws =
+    let was = idle_as cut laws.1 in
+    own_after (λ l. under_way l ≡ None → IsIdle l) now cut (λ is. was)
+    (λ is. goes_on cut now.act was (own_law now cut laws is))
 
 idle_none : (acts : List Act) → IsIdle acts → is_owner_gone acts ≡ false
     → (got_now acts ≡ []) × (filled_now acts ≡ [])

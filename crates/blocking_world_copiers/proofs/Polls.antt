@@ -5,23 +5,23 @@ use Rattle.std.proofs.Common.{◌++◌, length, take, not, cond, Bool, true, fal
 use Rattle.std.proofs.Common.{subst, Option, Some, None, arith}
 use Rattle.std.proofs.lemmas.Bool.Decides.{nat_tests}
 use Rattle.std.proofs.lemmas.List.{length-take}
-use Rattle.blocking_world_copiers.proofs.Words.{Met, Served, Waiting, Closed, State, Kind, Fault}
-use Rattle.blocking_world_copiers.proofs.Words.{Session, last_session, table, after_end, after_back}
-use Rattle.blocking_world_copiers.proofs.Words.{at_back, at_asked, at_accepted, refusal, is_at_end}
-use Rattle.blocking_world_copiers.proofs.Words.{has_begun, state, drain, fill, receive, IsBegunAnew}
-use Rattle.blocking_world_copiers.proofs.Words.{IsWakeOf, has_finished, has_result, last_job}
-use Rattle.blocking_world_copiers.proofs.Words.{number, poll_slot, poll_place, Polls, OwnerActs}
-use Rattle.blocking_world_copiers.proofs.Words.{OwnerMayAct, OwnerLaw, OwnerAction, Begin, CloseOwn}
-use Rattle.blocking_world_copiers.proofs.Words.{WakeJob, Drain, Fill, Receive, PollSlot, PollPlace}
-use Rattle.blocking_world_copiers.proofs.Words.{Say, Rest, owner_next_but_wake, next_of_owner_by}
-use Rattle.blocking_world_copiers.proofs.Words.{next_of_owner, seen_drain, seen_receive, seen_fill}
-use Rattle.blocking_world_copiers.proofs.Words.{data_of, EachMayFollow, Refusal, Woke, inside}
-use Rattle.blocking_world_copiers.proofs.Words.{room_in, has_closed, noted, own, is_some_worker}
-use Rattle.blocking_world_copiers.proofs.Words.{call, rests, may_ask, under_way, is_operation}
-use Rattle.blocking_world_copiers.proofs.Words.{session, is_shut, Act, Made, Asked, OwnerClosed}
-use Rattle.blocking_world_copiers.proofs.Words.{Got, GotItem, GotEnd, Filled, FillShut, Back}
-use Rattle.blocking_world_copiers.proofs.Words.{ResultGot, Replied, Accepted, Refused, JobWoken}
-use Rattle.blocking_world_copiers.proofs.Words.{Waits, HolderDropped, Event, Reply, Okay, Count}
+use Rattle.blocking_world_copiers.proofs.Words.{State, Kind, Fault, Session, last_session, table}
+use Rattle.blocking_world_copiers.proofs.Words.{after_end, after_back, at_back, at_asked}
+use Rattle.blocking_world_copiers.proofs.Words.{at_accepted, refusal, is_at_end, has_begun, state}
+use Rattle.blocking_world_copiers.proofs.Words.{drain, fill, receive, IsBegunAnew, IsWakeOf}
+use Rattle.blocking_world_copiers.proofs.Words.{has_finished, has_result, last_job, number}
+use Rattle.blocking_world_copiers.proofs.Words.{poll_slot, poll_place, Polls, OwnerActs}
+use Rattle.blocking_world_copiers.proofs.Words.{OwnerMayAct, OwnerLaw, OwnerLaws, OwnerAction}
+use Rattle.blocking_world_copiers.proofs.Words.{Begin, CloseOwn, WakeJob, Drain, Fill, Receive}
+use Rattle.blocking_world_copiers.proofs.Words.{PollSlot, PollPlace, Say, Rest, owner_next_but_wake}
+use Rattle.blocking_world_copiers.proofs.Words.{next_of_owner_by, next_of_owner, seen_drain}
+use Rattle.blocking_world_copiers.proofs.Words.{seen_receive, seen_fill, data_of, EachMayFollow}
+use Rattle.blocking_world_copiers.proofs.Words.{Refusal, Woke, inside, room_in, has_closed, noted}
+use Rattle.blocking_world_copiers.proofs.Words.{own, is_some_worker, call, rests, may_ask}
+use Rattle.blocking_world_copiers.proofs.Words.{under_way, is_operation, Act, Made, Asked}
+use Rattle.blocking_world_copiers.proofs.Words.{OwnerClosed, Got, GotItem, GotEnd, Filled, FillShut}
+use Rattle.blocking_world_copiers.proofs.Words.{Back, ResultGot, Replied, Accepted, Refused}
+use Rattle.blocking_world_copiers.proofs.Words.{JobWoken, Waits, HolderDropped, Event, Reply, Count}
 use Rattle.blocking_world_copiers.proofs.Words.{HandleCall, Read, Write, Flush}
 use Rattle.blocking_world_copiers.proofs.Words as words
 use Rattle.blocking_world_copiers.specs.Ties.{got_now, filled_now}
@@ -149,6 +149,21 @@ own_not now cut is = own_by true now cut is
 pub own_more : (now : Event) (cut : List Event) → is_some_worker now.party ≡ false
     → own (now ∷ cut) ≡ now.act ∷ own cut
 own_more now cut is = own_by false now cut is
+
+-- What holds of them after an event: it may be a job's, or one of them.
+pub own_after : (P : List Act → Type 0) (now : Event) (cut : List Event)
+    → (is_some_worker now.party ≡ true → P (own cut))
+    → (is_some_worker now.party ≡ false → P (now.act ∷ own cut)) → P (own (now ∷ cut))
+own_after P now cut job mine = by (is_some_worker now.party) refl
+  where
+    by : (b : Bool) → is_some_worker now.party ≡ b → P (own (now ∷ cut))
+    by true is = subst P (sym (own_not now cut is)) (job is)
+    by false is = subst P (sym (own_more now cut is)) (mine is)
+
+-- Each of them is what the laws let the owner do.
+pub own_law : (now : Event) (cut : List Event) → OwnerLaws (now ∷ cut)
+    → is_some_worker now.party ≡ false → OwnerActs cut now.act
+own_law now cut laws is = subst (λ b. OwnerMayAct b cut now) is laws.0.acts
 
 -- ---- what was done in a poll so far
 
@@ -496,12 +511,10 @@ poll_on cut act was does =
 -- By its laws each owner's poll is so.
 pub poll_as : (cut : List Event) → EachMayFollow OwnerLaw cut → PollAs (own cut)
 poll_as [] laws = tt
-poll_as (now ∷ cut) laws = by (is_some_worker now.party) refl laws.0.acts (poll_as cut laws.1)
-  where
-    by : (b : Bool) → is_some_worker now.party ≡ b → OwnerMayAct b cut now → PollAs (own cut)
-        → PollAs (own (now ∷ cut))
-    by true is acts was = subst PollAs (sym (own_not now cut is)) was
-    by false is acts was = subst PollAs (sym (own_more now cut is)) (poll_on cut now.act was acts)
+poll_as (now ∷ cut) laws =
+    let was = poll_as cut laws.1 in
+    own_after PollAs now cut (λ is. was)
+    (λ is. poll_on cut now.act was (own_law now cut laws is))
 
 -- ---- what an act of a poll finds
 
