@@ -332,6 +332,17 @@ acts_now cut act does plain =
         woken act does plain = grind arith
     no_waking cut next act does plain = tt
 
+-- Nothing came out of the pipe, and nothing went in, where no number is said next.
+unsaid_got : (cut : List Event) (acts : List Act) (m : ℕ) → ReadAs m acts
+    → ((k : ℕ) → owner_next_but_wake cut acts ≡ Say (Count k) → ⊥) → got_now acts ≡ []
+unsaid_got cut acts m was unsaid =
+    ⊎_elim (λ calm. calm.0) (λ says. absurd (unsaid _ (says.2 cut))) was.got
+
+unsaid_filled : (cut : List Event) (acts : List Act) (bytes : List ℕ) → WriteAs bytes acts
+    → ((k : ℕ) → owner_next_but_wake cut acts ≡ Say (Count k) → ⊥) → filled_now acts ≡ []
+unsaid_filled cut acts bytes was unsaid =
+    ⊎_elim (λ calm. calm.0) (λ says. absurd (unsaid _ (says.4 cut))) was.filled
+
 -- after such an act of a poll
 quietly : (cut : List Event) (act : Act) (asked : HandleCall) → under_way (own cut) ≡ Some asked
     → is_quiet act ≡ true → Polls cut (next_of_owner cut) act → CallAs (Some asked) (own cut)
@@ -341,19 +352,20 @@ quietly cut act (Read m) is quiet does was =
     let now = acts_now cut act does (quiet_plain act quiet) in
     record {
       none_filled = left.filled ∙ was.none_filled;
-      got = ⊎_elim (λ calm. inl (left.got ∙ calm.0, calm_after (Read m) (own cut) tt is act quiet))
-          (λ says. absurd (no_say (owner_next_but_wake cut (own cut)) act now quiet _ (says.2 cut)))
-          was.got;
+      got = inl (
+        left.got ∙ unsaid_got cut (own cut) m was (no_say _ act now quiet),
+        calm_after (Read m) (own cut) tt is act quiet,
+      );
     }
 quietly cut act (Write bytes) is quiet does was =
     let left = left_by (own cut) act quiet in
     let now = acts_now cut act does (quiet_plain act quiet) in
     record {
       none_got = left.got ∙ was.none_got;
-      filled = ⊎_elim
-          (λ calm. inl (left.filled ∙ calm.0, calm_after (Write bytes) (own cut) tt is act quiet))
-          (λ says. absurd (no_say (owner_next_but_wake cut (own cut)) act now quiet says.0
-          (says.4 cut))) was.filled;
+      filled = inl (
+        left.filled ∙ unsaid_filled cut (own cut) bytes was (no_say _ act now quiet),
+        calm_after (Write bytes) (own cut) tt is act quiet,
+      );
     }
 quietly cut act Flush is quiet does was =
     let left = left_by (own cut) act quiet in
@@ -374,12 +386,27 @@ begins Flush acts = record { none_got = refl; none_filled = refl }
 begins asked acts = tt
 
 -- a number isn't said where the pipe is asked
-no_drain : (next : OwnerAction) (n k : ℕ) → next ≡ Say (Count k) → next ≡ Drain n → ⊥
-no_drain next n k says drains = let both = sym says ∙ drains in cc
+no_drain : {next : OwnerAction} {n k : ℕ} → next ≡ Say (Count k) → next ≡ Drain n → ⊥
+no_drain says drains = let both = sym says ∙ drains in cc
 
-no_fill : (next : OwnerAction) (bytes : List ℕ) (k : ℕ) → next ≡ Say (Count k) → next ≡ Fill bytes
+no_fill : {next : OwnerAction} {bytes : List ℕ} {k : ℕ} → next ≡ Say (Count k) → next ≡ Fill bytes
     → ⊥
-no_fill next bytes k says fills = let both = sym says ∙ fills in cc
+no_fill says fills = let both = sym says ∙ fills in cc
+
+-- What the pipe is asked is for the read that is under way, or for the write.
+drains : (cut : List Event) (acts : List Act) (n : ℕ) (asked : HandleCall)
+    → under_way acts ≡ Some asked → owner_next_but_wake cut acts ≡ Drain n → Read n ≡ asked
+drains cut acts n asked is next =
+    let for = subst (λ a. IsFor a (call acts)) next (is_for cut acts) in
+    let one : Some (Read n) ≡ Some asked = sym for.0 ∙ under_way_call acts asked is in
+    cc
+
+fills_is : (cut : List Event) (acts : List Act) (bytes : List ℕ) (asked : HandleCall)
+    → under_way acts ≡ Some asked → owner_next_but_wake cut acts ≡ Fill bytes → Write bytes ≡ asked
+fills_is cut acts bytes asked is next =
+    let for = subst (λ a. IsFor a (call acts)) next (is_for cut acts) in
+    let one : Some (Write bytes) ≡ Some asked = sym for.0 ∙ under_way_call acts asked is in
+    cc
 
 -- bytes come out of the pipe
 module _ (acts : List Act) (bytes : List ℕ) (told : Option ℕ) (some : 0 < length bytes) where
@@ -398,24 +425,10 @@ module _ (acts : List Act) (bytes : List ℕ) (told : Option ℕ) (some : 0 < le
       → owner_next_but_wake cut acts ≡ Drain n → length bytes ≤ n → CallAs (Some asked) acts
       → CallAs (Some asked) (Got bytes told ∷ acts)
   gets cut n asked is next fits was =
-      by asked (of_some asked (sym for.0 ∙ under_way_call acts asked is)) was
-    where
-      for : (call acts ≡ Some (Read n)) × (0 < n)
-      for = subst (λ a. IsFor a (call acts)) next (is_for cut acts)
-
-      of_some : (asked : HandleCall) → Some (Read n) ≡ Some asked → Read n ≡ asked
-      of_some asked one = cc
-
-      by : (asked : HandleCall) → Read n ≡ asked → CallAs (Some asked) acts
-          → CallAs (Some asked) (Got bytes told ∷ acts)
-      by (Read m) one was =
-          let same : n ≡ m = cc in
-          gets_read m (subst (λ k. length bytes ≤ k) same fits)
-          (⊎_elim (λ calm. calm.0) (λ says. absurd (no_drain (owner_next_but_wake cut acts) n _
-          (says.2 cut) next)) was.got) was.none_filled
-      by (Write other) one was = absurd cc
-      by Flush one was = absurd cc
-      by other one was = tt
+      subst (λ c. CallAs (Some c) acts → CallAs (Some c) (Got bytes told ∷ acts))
+      (drains cut acts n asked is next)
+      (λ reads. gets_read n fits (unsaid_got cut acts n reads (λ k says. no_drain says next))
+      reads.none_filled) was
 
 -- and go in
 module _ (acts : List Act) (n : ℕ) (told : Option ℕ) (some : 0 < n) where
@@ -430,25 +443,11 @@ module _ (acts : List Act) (n : ℕ) (told : Option ℕ) (some : 0 < n) where
       → owner_next_but_wake cut acts ≡ Fill bytes → n ≤ length bytes → CallAs (Some asked) acts
       → CallAs (Some asked) (Filled n told ∷ acts)
   fills cut bytes asked is next fits was =
-      by asked (of_some asked (sym for.0 ∙ under_way_call acts asked is)) was
-    where
-      for : (call acts ≡ Some (Write bytes)) × (0 < length bytes)
-      for = subst (λ a. IsFor a (call acts)) next (is_for cut acts)
-
-      of_some : (asked : HandleCall) → Some (Write bytes) ≡ Some asked → Write bytes ≡ asked
-      of_some asked one = cc
-
-      by : (asked : HandleCall) → Write bytes ≡ asked → CallAs (Some asked) acts
-          → CallAs (Some asked) (Filled n told ∷ acts)
-      by (Write other) one was =
-          let same : bytes ≡ other = cc in
-          fills_write other (subst (λ l. n ≤ length l) same fits)
-          (for.0 ∙ ap (λ l. Some (Write l)) same) was.none_got
-          (⊎_elim (λ calm. calm.0) (λ says. absurd
-          (no_fill (owner_next_but_wake cut acts) bytes _ (says.4 cut) next)) was.filled)
-      by (Read m) one was = absurd cc
-      by Flush one was = absurd cc
-      by other one was = tt
+      let same = fills_is cut acts bytes asked is next in
+      subst (λ c. CallAs (Some c) acts → CallAs (Some c) (Filled n told ∷ acts)) same
+      (λ writes. fills_write bytes fits
+      (under_way_call acts (Write bytes) (is ∙ ap (λ c. Some c) (sym same))) writes.none_got
+      (unsaid_filled cut acts bytes writes (λ k says. no_fill says next))) was
 
 -- a wake of a job comes between
 woken : (s : ℕ) (woke : Woke) (acts : List Act) (asked : Option HandleCall) → CallAs asked acts
@@ -617,53 +616,44 @@ not_read : (cut : List Event) (bytes : List ℕ) (told : Option ℕ) (asked : Ha
     → under_way (own cut) ≡ Some asked → OwnerActs cut (Got bytes told) → is_read asked ≡ false → ⊥
 not_read cut bytes told asked is does other =
     let now = acts_now cut (Got bytes told) does tt in
-    let mine = subst (λ a. IsFor a (call (own cut))) now.1 (is_for cut (own cut)) in
-    let one : Some (Read now.0) ≡ Some asked = sym mine.0 ∙ under_way_call (own cut) asked is in
-    let same : Read now.0 ≡ asked = cc in
-    let both = sym other ∙ ap is_read (sym same) in
+    let both = sym other ∙ ap is_read (sym (drains cut (own cut) now.0 asked is now.1)) in
     absurd cc
+
+step_by : (cut : List Event) (act : Act) (asked : HandleCall) → under_way (own cut) ≡ Some asked
+    → CallAs (Some asked) (own cut) → OwnerActs cut act → StepAs asked (own cut) act
+step_by cut (Asked other) asked is was does = no_ask (own cut) asked other is does
+step_by cut (Made h capacity) asked is was does = no_owner cut asked is does
+step_by cut HolderDropped asked is was does = no_poll (own cut) asked is does
+step_by cut (Got bytes told) (Read m) is was does =
+    let now = acts_now cut (Got bytes told) does tt in
+    unsaid_got cut (own cut) m was (λ k says. no_drain says now.1)
+step_by cut Waits (Read m) is was does =
+    unsaid_got cut (own cut) m was (λ k. acts_now cut Waits does tt (Count k))
+step_by cut (Replied reply) (Read m) is was does =
+    read_replied m (own cut) (owner_next_but_wake cut (own cut)) reply was (λ calm. calm cut)
+    (λ n says. says cut) (acts_now cut (Replied reply) does tt)
+step_by cut (Filled n told) (Write bytes) is was does =
+    let now = acts_now cut (Filled n told) does tt in
+    let one = fills_is cut (own cut) now.0 (Write bytes) is now.1 in
+    let same : now.0 ≡ bytes = cc in (
+      unsaid_filled cut (own cut) bytes was (λ k says. no_fill says now.1),
+      subst (λ l. n ≤ length l) same now.3,
+    )
+step_by cut Waits (Write bytes) is was does =
+    unsaid_filled cut (own cut) bytes was (λ k. acts_now cut Waits does tt (Count k))
+step_by cut (Replied reply) (Write bytes) is was does =
+    write_replied bytes (own cut) (owner_next_but_wake cut (own cut)) reply was (λ calm. calm cut)
+    (λ n says. says cut) (acts_now cut (Replied reply) does tt)
+step_by cut (Filled n told) Flush is was does =
+    let now = acts_now cut (Filled n told) does tt in
+    let one = fills_is cut (own cut) now.0 Flush is now.1 in
+    absurd cc
+step_by cut (Got bytes told) (Write other) is was does =
+    not_read cut bytes told (Write other) is does refl
+step_by cut (Got bytes told) Flush is was does = not_read cut bytes told Flush is does refl
+step_by cut act asked is was does = tt
 
 pub step_as : (cut : List Event) (act : Act) (asked : HandleCall) → under_way (own cut) ≡ Some asked
     → PollAs (own cut) → OwnerActs cut act → StepAs asked (own cut) act
-step_as cut (Asked other) asked is was does = no_ask (own cut) asked other is does
-step_as cut (Made h capacity) asked is was does = no_owner cut asked is does
-step_as cut HolderDropped asked is was does = no_poll (own cut) asked is does
-step_as cut (Got bytes told) (Read m) is was does =
-    let now = acts_now cut (Got bytes told) does tt in
-    ⊎_elim (λ calm. calm.0)
-    (λ says. absurd (no_drain (owner_next_but_wake cut (own cut)) now.0 _ (says.2 cut) now.1))
-    (subst (λ a. CallAs a (own cut)) is was).got
-step_as cut Waits (Read m) is was does =
-    ⊎_elim (λ calm. calm.0) (λ says. absurd (acts_now cut Waits does tt (Count _) (says.2 cut)))
-    (subst (λ a. CallAs a (own cut)) is was).got
-step_as cut (Replied reply) (Read m) is was does =
-    read_replied m (own cut) (owner_next_but_wake cut (own cut))
-    reply (subst (λ a. CallAs a (own cut)) is was) (λ calm. calm cut) (λ n says. says cut)
-    (acts_now cut (Replied reply) does tt)
-step_as cut (Filled n told) (Write bytes) is was does =
-    let now = acts_now cut (Filled n told) does tt in
-    let mine = subst (λ a. IsFor a (call (own cut))) now.1 (is_for cut (own cut)) in
-    let one : Some (Write now.0) ≡ Some (Write bytes) =
-    sym mine.0 ∙ under_way_call (own cut) (Write bytes) is in
-    let same : now.0 ≡ bytes = cc in (
-      ⊎_elim (λ calm. calm.0)
-          (λ says. absurd (no_fill (owner_next_but_wake cut (own cut)) now.0 _ (says.4 cut) now.1))
-          (subst (λ a. CallAs a (own cut)) is was).filled,
-      subst (λ l. n ≤ length l) same now.3,
-    )
-step_as cut Waits (Write bytes) is was does =
-    ⊎_elim (λ calm. calm.0) (λ says. absurd (acts_now cut Waits does tt (Count _) (says.4 cut)))
-    (subst (λ a. CallAs a (own cut)) is was).filled
-step_as cut (Replied reply) (Write bytes) is was does =
-    write_replied bytes (own cut) (owner_next_but_wake cut (own cut))
-    reply (subst (λ a. CallAs a (own cut)) is was) (λ calm. calm cut) (λ n says. says cut)
-    (acts_now cut (Replied reply) does tt)
-step_as cut (Filled n told) Flush is was does =
-    let now = acts_now cut (Filled n told) does tt in
-    let mine = subst (λ a. IsFor a (call (own cut))) now.1 (is_for cut (own cut)) in
-    let one : Some (Write now.0) ≡ Some Flush = sym mine.0 ∙ under_way_call (own cut) Flush is in
-    absurd cc
-step_as cut (Got bytes told) (Write other) is was does =
-    not_read cut bytes told (Write other) is does refl
-step_as cut (Got bytes told) Flush is was does = not_read cut bytes told Flush is does refl
-step_as cut act asked is was does = tt
+step_as cut act asked is was does =
+    step_by cut act asked is (subst (λ a. CallAs a (own cut)) is was) does
