@@ -53,7 +53,7 @@ pub none_asked : {o : Option HandleCall} {asked : HandleCall} → o ≡ None →
 none_asked none some = let both = sym none ∙ some in cc
 
 -- where no poll is under way nothing is asked once more
-none_asking : {reader writer polls since : List Act} → under_way reader ≡ None
+pub none_asking : {reader writer polls since : List Act} → under_way reader ≡ None
     → under_way writer ≡ None → IsAsking reader writer polls since
 none_asking read wrote = record {
   reading = λ asked is. absurd (none_asked read is);

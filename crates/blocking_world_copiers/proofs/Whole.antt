@@ -61,6 +61,7 @@ use Rattle.blocking_world_copiers.specs.declared.copier.CopierNext.TheVariants a
 use Rattle.blocking_world_copiers.proofs.Words.{Act, Made, Asked, Event, HandleCall, Read, Write}
 use Rattle.blocking_world_copiers.proofs.Words.{Flush}
 use Rattle.blocking_world_copiers.proofs.Polls.{IsCopiers, PollAs, poll_as, step_as}
+use Rattle.blocking_world_copiers.proofs.Copying.{none_asking}
 use Rattle.blocking_world_copiers.proofs.OrderSteps.{told_order}
 use Rattle.blocking_world_copiers.proofs.Endings.{took_all}
 use Rattle.blocking_world_copiers.proofs.Seen.{is_own, own_other, own_this, since_other}
@@ -138,20 +139,28 @@ no_link step act is = grind arith
 no_next : (step : Step) (act : Act) (many : ℕ) → is_nothing act ≡ true → MakesNext step act many
 no_next step act many is = grind arith
 
+-- The copiers hang together after an event by which none is made, where they are these by now.
+copied_as : (w : Assembled) (past : List Moment) (t : Copied w past) (now : Moment)
+    (new : Assembled) (cs : List CopierState) → new.copiers ≡ cs → new.made ≡ w.made
+    → is_linking now.step now.event.act ≡ false → map shown cs ≡ copiers (now ∷ past)
+    → AreApart cs → AllAs cs (now ∷ past) → Copied new (now ∷ past)
+copied_as w past t now new cs are made none shown_as apart each = record {
+  shown_are = ap (map shown) are ∙ shown_as;
+  made_is = made ∙ t.made_is ∙ sym (links_same now past none);
+  apart = subst AreApart (sym are) apart;
+  each = subst (λ l. AllAs l (now ∷ past)) (sym are) each;
+}
+
 -- nothing is done: all stays
 module _ (w : Assembled) (past : List Moment) (t : Copied w past) (now : Moment) (new : Assembled)
     (stays : AllStay w new) where
   idle_copied : is_nothing now.event.act ≡ true → Copied new (now ∷ past)
-  idle_copied nothing = record {
-    shown_are = ap (map shown) stays.copiers ∙ t.shown_are
-        ∙ sym (stay_by now.step now.event.act (copiers past) nothing);
-    made_is =
-        stays.made ∙ t.made_is ∙ sym (links_same now past (no_link now.step now.event.act nothing));
-    apart = subst AreApart (sym stays.copiers) t.apart;
-    each = subst (λ cs. AllAs cs (now ∷ past)) (sym stays.copiers)
-        (all_aside w.copiers now past (no_next now.step now.event.act (links past) nothing)
-        (λ h by some. absurd (let none = sym some ∙ nothing in cc)) t.each);
-  }
+  idle_copied nothing =
+      copied_as w past t now new w.copiers stays.copiers stays.made
+      (no_link now.step now.event.act nothing)
+      (t.shown_are ∙ sym (stay_by now.step now.event.act (copiers past) nothing)) t.apart
+      (all_aside w.copiers now past (no_next now.step now.event.act (links past) nothing)
+      (λ h by some. absurd (let none = sym some ∙ nothing in cc)) t.each)
 
 -- what makes no copier makes none
 unlinked : (many : ℕ) (step : Step) (act : Act) → is_linking step act ≡ false
@@ -266,13 +275,9 @@ module _ (setting : ℕ) (plan : List Bool) (w : Assembled) (past : List Moment)
     takes_lawful none same told out =
         whole setting plan w past lawful now new parts_now
         (record {
-          copied = record {
-            shown_are = ap (map shown) does.stays.copiers ∙ t.shown_are ∙ sym same;
-            made_is = does.stays.made ∙ t.made_is ∙ sym (links_same now past none);
-            apart = subst AreApart (sym does.stays.copiers) t.apart;
-            each = subst (λ cs. AllAs cs (now ∷ past)) (sym does.stays.copiers)
-                (all_aside w.copiers now past (unlinked (links past) step e.act none) out t.each);
-          };
+          copied = copied_as w past t now new w.copiers does.stays.copiers does.stays.made none
+              (t.shown_are ∙ sym same) t.apart
+              (all_aside w.copiers now past (unlinked (links past) step e.act none) out t.each);
           step = law_now;
           told = told;
         })
@@ -387,13 +392,9 @@ module _ (setting : ℕ) (plan : List Bool) (w : Assembled) (past : List Moment)
   polls h e new does =
       whole setting plan w past lawful now new parts_next
       (record {
-        copied = record {
-          shown_are = ap (map shown) does.copiers ∙ hear_shown h e.act w.copiers ∙ t.shown_are;
-          made_is = does.made ∙ t.made_is ∙ sym (links_same now past refl);
-          apart = subst AreApart (sym does.copiers) (apart_hear w.copiers t.apart);
-          each =
-              subst (λ cs. AllAs cs (now ∷ past)) (sym does.copiers) (by (is_nothing e.act) refl);
-        };
+        copied = copied_as w past t now new (hear_first h e.act w.copiers) does.copiers does.made
+            refl (hear_shown h e.act w.copiers ∙ t.shown_are) (apart_hear w.copiers t.apart)
+            (by (is_nothing e.act) refl);
         step = law;
         told = tt;
       })
@@ -608,11 +609,7 @@ module _ (setting : ℕ) (plan : List Bool) (w : Assembled) (past : List Moment)
         stands =
             (refl, refl, (writes.resting, nothing_b.1), inl ((reads.resting, nothing_a.0), refl));
         next_is = refl;
-        asking =
-            record {
-              reading = λ asked runs. absurd (let none = sym reads.resting ∙ runs in cc);
-              writing = λ asked runs. absurd (let none = sym writes.resting ∙ runs in cc);
-            };
+        asking = none_asking reads.resting writes.resting;
       }
 
       new_as : CopierAs (new_copier w.made a b n) (record { step = Link a b n; event = e } ∷ past)
@@ -663,28 +660,18 @@ module _ (setting : ℕ) (plan : List Bool) (w : Assembled) (past : List Moment)
 
   may_copy_is : (c : CopierState) → CopierAs c past
       → may_copy (Some (shown c)) past ≡ may_copy_in w c
-  may_copy_is c tie = by (is_poll_over (under_way (acts_of_owner c.reader (events past))))
-      (is_poll_over (under_way (acts_of_owner c.writer (events past)))) refl refl
+  may_copy_is c tie =
+      same_test (is_poll_over (under_way (acts_of_owner c.reader (events past))))
+      (is_poll_over (under_way (acts_of_owner c.writer (events past))))
+      (rests_in (slice_get w.parts.owners c.reader)) (rests_in (slice_get w.parts.owners c.writer))
+      (may_do_in w c.reader c.writer (next_of c)) (rests_is c.reader tie.by.reader_open)
+      (rests_is c.writer tie.by.writer_open) (λ r v. may_do_is c tie r v c.core.next)
     where
-      by : (x y : Bool) → is_poll_over (under_way (acts_of_owner c.reader (events past))) ≡ x
-          → is_poll_over (under_way (acts_of_owner c.writer (events past))) ≡ y
-          → may_copy (Some (shown c)) past ≡ may_copy_in w c
-      by true true r v =
-          ap (λ b. b && is_poll_over (under_way (acts_of_owner c.writer (events past)))) r ∙ v
-          ∙ sym (ap (λ b. (b && rests_in (slice_get w.parts.owners c.writer)) && may_do_in w
-          c.reader c.writer (next_of c)) (rests_is c.reader tie.by.reader_open ∙ r)
-          ∙ ap (λ b. b && may_do_in w c.reader c.writer (next_of c))
-          (rests_is c.writer tie.by.writer_open ∙ v) ∙ may_do_is c tie r v c.core.next)
-      by false y r v =
-          ap (λ b. b && is_poll_over (under_way (acts_of_owner c.writer (events past)))) r
-          ∙ sym (ap (λ b. (b && rests_in (slice_get w.parts.owners c.writer)) && may_do_in w
-          c.reader c.writer (next_of c)) (rests_is c.reader tie.by.reader_open ∙ r))
-      by true false r v =
-          ap (λ b. b && is_poll_over (under_way (acts_of_owner c.writer (events past)))) r ∙ v
-          ∙ sym (ap (λ b. (b && rests_in (slice_get w.parts.owners c.writer)) && may_do_in w
-          c.reader c.writer (next_of c)) (rests_is c.reader tie.by.reader_open ∙ r)
-          ∙ ap (λ b. b && may_do_in w c.reader c.writer (next_of c))
-          (rests_is c.writer tie.by.writer_open ∙ v))
+      same_test : (x y r v d : Bool) → r ≡ x → v ≡ y → (x ≡ true → y ≡ true → d ≡ true)
+          → (x && y) ≡ ((r && v) && d)
+      same_test true true r v d reader writer does = let done = does refl refl in grind arith
+      same_test true false r v d reader writer does = grind arith
+      same_test false y r v d reader writer does = grind arith
 
   has_copy : (k : ℕ) (c : CopierState) → copier_at k w.copiers ≡ Some c
       → has_action past (Copy k) ≡ may_copy_in w c
@@ -739,17 +726,12 @@ module _ (setting : ℕ) (plan : List Bool) (w : Assembled) (past : List Moment)
         whole setting plan w past lawful copy_now new (copier_lawful setting plan w.parts past
         lawful.parts new.parts e (Copy k) (ByOwner g) (Asked asked) does.moves)
         (record {
-          copied = record {
-            shown_are = ap (map shown) does.stays.copiers ∙ t.shown_are
-                ∙ sym (ap (λ x. copiers_by (Copy k) x (copiers past)) does.moves.act_is);
-            made_is = does.stays.made ∙ t.made_is
-                ∙ sym (links_same copy_now past (ap (is_linking (Copy k)) does.moves.act_is));
-            apart = subst AreApart (sym does.stays.copiers) t.apart;
-            each = subst (λ cs. AllAs cs (copy_now ∷ past)) (sym does.stays.copiers)
-                (all_ask copy_now past k g c does.moves.by its
-                (subst (λ x. MakesNext (Copy k) x (links past)) (sym does.moves.act_is) tt)
-                after w.copiers found t.each t.apart);
-          };
+          copied = copied_as w past t copy_now new w.copiers does.stays.copiers does.stays.made
+              (ap (is_linking (Copy k)) does.moves.act_is)
+              (t.shown_are ∙ sym (ap (λ x. copiers_by (Copy k) x (copiers past)) does.moves.act_is))
+              t.apart (all_ask copy_now past k g c does.moves.by its
+              (subst (λ x. MakesNext (Copy k) x (links past)) (sym does.moves.act_is) tt)
+              after w.copiers found t.each t.apart);
           step = copy_law what is (does.moves.act_is ∙ act) (ap is_nothing does.moves.act_is)
               (does.moves.by ∙ by) does.moves.jobless does.moves.ownerless;
           told = subst (λ x. TellsTruly (copier_in k (copiers past)) past x) (sym does.moves.act_is)
@@ -770,19 +752,15 @@ module _ (setting : ℕ) (plan : List Bool) (w : Assembled) (past : List Moment)
         whole setting plan w past lawful copy_now new (copier_lawful setting plan w.parts past
         lawful.parts new.parts e (Copy k) Pool act does.moves)
         (record {
-          copied = record {
-            shown_are = ap (map shown) does.copiers
-                ∙ without_shown k w.copiers t.apart ∙ ap (without_copier k) t.shown_are ∙ sym gone
-                ∙ sym (ap (λ x. copiers_by (Copy k) x (copiers past)) does.moves.act_is);
-            made_is = does.made ∙ t.made_is ∙ sym
-                (links_same copy_now past (ap (is_linking (Copy k)) does.moves.act_is ∙ none));
-            apart = subst AreApart (sym does.copiers) (apart_without k w.copiers t.apart);
-            each = subst (λ cs. AllAs cs (copy_now ∷ past)) (sym does.copiers)
-                (all_aside (without_number k w.copiers) copy_now past
-                (subst (λ x. MakesNext (Copy k) x (links past)) (sym does.moves.act_is) next)
-                (λ g of_g something. absurd (let other = sym does.moves.by ∙ of_g in cc))
-                (all_without k w.copiers past t.each));
-          };
+          copied = copied_as w past t copy_now new (without_number k w.copiers) does.copiers
+              does.made (ap (is_linking (Copy k)) does.moves.act_is ∙ none)
+              (without_shown k w.copiers t.apart ∙ ap (without_copier k) t.shown_are ∙ sym gone
+              ∙ sym (ap (λ x. copiers_by (Copy k) x (copiers past)) does.moves.act_is))
+              (apart_without k w.copiers t.apart)
+              (all_aside (without_number k w.copiers) copy_now past
+              (subst (λ x. MakesNext (Copy k) x (links past)) (sym does.moves.act_is) next)
+              (λ g of_g something. absurd (let other = sym does.moves.by ∙ of_g in cc))
+              (all_without k w.copiers past t.each));
           step =
               copy_law (TellsEnd act) is does.moves.act_is (ap is_nothing does.moves.act_is ∙ some)
               does.moves.by does.moves.jobless does.moves.ownerless;
