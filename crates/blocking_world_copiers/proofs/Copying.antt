@@ -148,6 +148,11 @@ rest_is written read before rest wrote is =
 -- ---- what stays of a copier's tie
 
 module _ {size copied : ℕ} {short : Bool} {piece : List ℕ} {a b pa pb p : List Act} where
+  -- All was written before the poll under way, where nothing went in.
+  pub wrote_before : {act : CopyAction ℕ} (t : CopierBy size act copied short piece a b pa pb p)
+      → filled_now b ≡ [] → all_accepted pb ≡ t.before
+  wrote_before t none = t.wrote ∙ behind_none t.before (filled_now b) none
+
   -- Over an act of its reader all stays that its writer did.
   by_reader : {act next : CopyAction ℕ} {kept : List ℕ} (x : Act)
       (t : CopierBy size act copied short piece a b pa pb p) → IsOpen (x ∷ a)
@@ -360,10 +365,9 @@ module _ (k h g size copied : ℕ) (short : Bool) (piece : List ℕ) (a b pa pb 
         let many_kept : length piece ≡ suc n = ap length kept ∙ many in
         let whole : between 0 (suc n) piece ≡ got_now a =
         whole_piece (suc n) piece many_kept ∙ kept in
-        let wrote : all_accepted pb ≡ t.before =
-        t.wrote ∙ behind_none t.before (filled_now b) t.stands.2.1 in
         let rest : drop (length (all_accepted pb)) (all_got pa) ≡ got_now a =
-        rest_is (all_accepted pb) (all_got pa) t.before (got_now a) wrote reads.0 in
+        rest_is (all_accepted pb) (all_got pa) t.before (got_now a)
+        (wrote_before t t.stands.2.1) reads.0 in
         reader_replies (Count (suc n)) (
           t.stands.1,
           reads.0 ∙ ap (λ l. t.before ++ l) (sym whole),
@@ -439,10 +443,6 @@ module _ (k h g size copied : ℕ) (short : Bool) (piece : List ℕ) (a b pa pb 
     asks_it : (outcome p ≡ NoReply) × (call p ≡ Some (Write rest)) × (call pb ≡ Some (Write rest))
     asks_it = t.asking.writing (Write rest) runs
 
-    -- what was written before its poll is all, where nothing went in
-    none_wrote : filled_now b ≡ [] → all_accepted pb ≡ t.before
-    none_wrote none = t.wrote ∙ behind_none t.before (filled_now b) none
-
     -- some of it was taken
     module _ (m : ℕ) (took : filled_now b ≡ take (suc m) rest) (fits : suc m ≤ length rest) where
       abbrev now : List ℕ
@@ -515,7 +515,7 @@ module _ (k h g size copied : ℕ) (short : Bool) (piece : List ℕ) (a b pa pb 
         → CopierOf (heard (with_next (action.Write from to)) (Replied reply)) a (Replied reply ∷ b)
         pa (Replied reply ∷ pb) (Replied reply ∷ p)
     writer_told (Count zero) none =
-        writer_replies (Count 0) (Write rest) t t.before tt t.stands.2.0 runs (none_wrote none)
+        writer_replies (Count 0) (Write rest) t t.before tt t.stands.2.0 runs (wrote_before t none)
         (count_same (to - from) (length t.before) copied t.count ∙ t.count)
         (all_true short ∙ sym (ap (λ c. is_write c || is_short pb) asks_it.2)) (
           (rest, t.stands.1),
@@ -527,10 +527,10 @@ module _ (k h g size copied : ℕ) (short : Bool) (piece : List ℕ) (a b pa pb 
         (writer_counts k took.0 took.1 (nat_lt (suc k) (to - from)) (nat_le (suc k) (to - from))
         refl refl)
     writer_told (Failed why) none = if_short short
-        (writer_replies (Failed why) (Write rest) t t.before tt t.stands.2.0 runs (none_wrote none)
-        t.count t.short ((rest, t.stands.1), t.stands.2, (refl, refl)) refl)
+        (writer_replies (Failed why) (Write rest) t t.before tt t.stands.2.0 runs
+        (wrote_before t none) t.count t.short ((rest, t.stands.1), t.stands.2, (refl, refl)) refl)
     writer_told reply none = if_short short
-        (writer_replies reply (Write rest) t t.before tt t.stands.2.0 runs (none_wrote none)
+        (writer_replies reply (Write rest) t t.before tt t.stands.2.0 runs (wrote_before t none)
         t.count t.short (t.stands.0, t.stands.1, t.stands.2, t.stands.3, inl (refl, refl)) refl)
 
     writer_does : (x : Act) → StepAs (Write rest) b x
@@ -565,7 +565,7 @@ module _ (k h g size copied : ℕ) (short : Bool) (piece : List ℕ) (a b pa pb 
     none_filled = ⊎_elim (λ rests. rests.1) (λ now. now.1) t.stands.3
 
     wrote_all : all_accepted pb ≡ t.before
-    wrote_all = t.wrote ∙ behind_none t.before (filled_now b) none_filled
+    wrote_all = wrote_before t none_filled
 
     flush_short : (reply : Reply) → is_short (Replied reply ∷ pb) ≡ is_short pb
     flush_short reply = grind (arith, asks_flushed)

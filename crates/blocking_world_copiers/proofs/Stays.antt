@@ -1,17 +1,15 @@
 -- What each event leaves of the copiers.
-use Rattle.std.proofs.Common.{◌≡◌, ◌⊎◌, ⊎_elim, inl, inr, ℕ, ◌+◌, ◌<◌, ◌≤◌, ◌==◌, ◌&&◌, ◌||◌, not}
-use Rattle.std.proofs.Common.{if◌then◌else◌, List, [], ◌∷◌, length, map, Bool, true, false, refl}
-use Rattle.std.proofs.Common.{sym, ap, ◌∙◌, subst, Option, Some, None, is_some, option_map, arith}
+use Rattle.std.proofs.Common.{◌≡◌, ℕ, ◌<◌, ◌≤◌, ◌==◌, ◌&&◌, ◌||◌, not, if◌then◌else◌, List, [], ◌∷◌}
+use Rattle.std.proofs.Common.{map, Bool, true, false, refl, sym, ap, ◌∙◌, subst, Some, None}
+use Rattle.std.proofs.Common.{option_map, arith}
 use Rattle.std.proofs.lemmas.Bool.Decides.{nat_tests}
 use Rattle.std.proofs.lemmas.Bool.{eqb-true}
-use Rattle.blocking_world_laws.specs.Copies.{makes_copier, acts_since, is_by_either, polls_of}
-use Rattle.blocking_world_laws.specs.Lent.{Copier, copiers, copiers_by, copier_in, has_owner, links}
-use Rattle.blocking_world_laws.specs.Lent.{is_linking, without_copier}
-use Rattle.blocking_world_laws.specs.Seen.{events, cut, own, acts_of_owner, is_nothing, is_owner}
-use Rattle.blocking_world_laws.specs.Seen.{is_of_pool}
-use Rattle.blocking_world_laws.specs.Sessions.{under_way}
+use Rattle.blocking_world_laws.specs.Copies.{makes_copier, is_by_either}
+use Rattle.blocking_world_laws.specs.Lent.{Copier, copier_in, has_owner, links, is_linking}
+use Rattle.blocking_world_laws.specs.Lent.{without_copier}
+use Rattle.blocking_world_laws.specs.Seen.{events, is_nothing, is_owner}
 use Rattle.blocking_world_laws.specs.declared.event.Act.{Act}
-use Rattle.blocking_world_laws.specs.declared.event.Act.TheVariants.{Linked, NoAction}
+use Rattle.blocking_world_laws.specs.declared.event.Act.TheVariants.{Linked}
 use Rattle.blocking_world_laws.specs.declared.event.Event.{Event}
 use Rattle.blocking_world_laws.specs.declared.event.Moment.{Moment}
 use Rattle.blocking_world_laws.specs.declared.event.Party.{Party}
@@ -22,9 +20,8 @@ use Rattle.blocking_world_laws.specs.declared.event.Party.TheVariants.{Worker, P
 use Rattle.blocking_world_copiers.specs.Copiers.{CopierState, shown, belongs, has_number, heard}
 use Rattle.blocking_world_copiers.specs.Copiers.{copier_at, is_lent, hear_first, without_number}
 use Rattle.blocking_world_copiers.specs.Ties.{InOrder, CopierOf, CopierAs, AreApart, AllAs}
-use Rattle.blocking_world_copiers.proofs.Seen.{is_own, own_other, own_this, since_other, since_this}
-use Rattle.blocking_world_copiers.proofs.Seen.{polls_other, polls_this, neither, links_same}
-use Rattle.blocking_world_copiers.proofs.Seen.{links_more}
+use Rattle.blocking_world_copiers.proofs.Seen.{own_other, since_other, polls_other, neither}
+use Rattle.blocking_world_copiers.proofs.Seen.{links_same, links_more}
 
 -- ---- a copier is over these lists
 
