@@ -1,5 +1,5 @@
 -- What the poll of a writer does next, by its call and by where its handle is.
-use Rattle.std.proofs.Common.{◌≡◌, ◌⊎◌, ⊎_elim, ℕ, ◌<◌, List, [], ◌∷◌, Bool, true, false, refl, sym}
+use Rattle.std.proofs.Common.{◌≡◌, ⊎_elim, ℕ, ◌<◌, List, [], ◌∷◌, Bool, true, false, refl, sym}
 use Rattle.std.proofs.Common.{ap, ◌∙◌, subst, Option, Some, None, arith}
 use Rattle.blocking_world_laws.specs.Seen.{acts_of}
 use Rattle.blocking_world_laws.specs.Sessions.{Idle}

@@ -1,5 +1,5 @@
 -- What a copier does keeps the order in which it asks its writer.
-use Rattle.std.proofs.Common.{◌≡◌, ◌⊎◌, ⊎_elim, ℕ, zero, suc, ◌+◌, ◌-◌, ◌&&◌, not, nat_le, nat_lt}
+use Rattle.std.proofs.Common.{◌≡◌, ⊎_elim, ℕ, zero, suc, ◌+◌, ◌-◌, ◌&&◌, not, nat_le, nat_lt}
 use Rattle.std.proofs.Common.{if◌then◌else◌, List, ◌∷◌, Bool, true, false, refl, ap, ◌∙◌, subst}
 use Rattle.std.proofs.Common.{Some}
 use Rattle.blocking_core.specs.Copying.{next_after}

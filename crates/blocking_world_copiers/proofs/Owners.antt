@@ -1,5 +1,5 @@
 -- What owners do that are lent to copiers.
-use Rattle.std.proofs.Common.{◌≡◌, ℕ, ◌<◌, ◌==◌, ◌&&◌, ◌||◌, not, if◌then◌else◌, List, [], ◌∷◌, ◌-◌}
+use Rattle.std.proofs.Common.{◌≡◌, ℕ, ◌<◌, ◌==◌, ◌&&◌, ◌||◌, not, if◌then◌else◌, List, [], ◌∷◌}
 use Rattle.std.proofs.Common.{Bool, true, false, refl, sym, ap, ◌∙◌, subst, Some, None, arith}
 use Rattle.std.proofs.lemmas.Bool.{eqb-true}
 use Rattle.blocking_world_laws.specs.Copies.{acts_since, polls_of}
@@ -15,7 +15,7 @@ use Rattle.blocking_world_copiers.specs.Copiers.{hear_first}
 use Rattle.blocking_world_copiers.specs.Ties.{got_now, filled_now, InOrder, CopierOf, CopierAs}
 use Rattle.blocking_world_copiers.specs.Ties.{AreApart, AllAs}
 use Rattle.blocking_world_copiers.proofs.Words.{Act, Made, Asked, Waits, Replied, HolderDropped}
-use Rattle.blocking_world_copiers.proofs.Words.{Rest, next_of_owner_by, Event, HandleCall, number}
+use Rattle.blocking_world_copiers.proofs.Words.{Rest, next_of_owner_by, Event, HandleCall}
 use Rattle.blocking_world_copiers.proofs.Polls.{StepAs, own_after, own_law}
 use Rattle.blocking_world_copiers.proofs.Copying.{reader_acts, writer_acts}
 use Rattle.blocking_world_copiers.proofs.OrderSteps.{reader_order, writer_order}
@@ -81,19 +81,17 @@ pub heard_same : (c : CopierState) (act : Act) → ((heard c act).number ≡ c.n
     × ((heard c act).reader ≡ c.reader) × ((heard c act).writer ≡ c.writer)
 heard_same c act = grind arith
 
+-- the polls of a copier by its number and its owners
+abbrev polls_by : ℕ → ℕ → ℕ → List Moment → List Act
+polls_by k h g past = polls_of (record { number = k; reader = h; writer = g; piece = 0 }) past
+
 -- what is tied of a copier stays with its number and its owners
 renamed : (c d : CopierState) (past : List Moment) → d.number ≡ c.number → d.reader ≡ c.reader
     → d.writer ≡ c.writer → c.number < links past → (c.reader == c.writer) ≡ false
     → InOrder d.core.next (acts_since c.number c.writer past)
     → CopierOf d (acts_of_owner c.reader (events past)) (acts_of_owner c.writer (events past))
     (acts_since c.number c.reader past) (acts_since c.number c.writer past)
-    (polls_of (record {
-      number = c.number;
-      reader = c.reader;
-      writer = c.writer;
-      piece = d.core.piece;
-    }) past)
-    → CopierAs d past
+    (polls_by c.number c.reader c.writer past) → CopierAs d past
 renamed c d past n r w known differ order by = record {
   known = subst (λ k. k < links past) (sym n) known;
   differ = ap (λ h. h == d.writer) r ∙ ap (λ h. c.reader == h) w ∙ differ;
@@ -103,29 +101,10 @@ renamed c d past n r w known differ order by = record {
       (ap (λ h. acts_of_owner h (events past)) w)
       (ap (λ k. acts_since k d.reader past) n ∙ ap (λ h. acts_since c.number h past) r)
       (ap (λ k. acts_since k d.writer past) n ∙ ap (λ h. acts_since c.number h past) w)
-      (ap (λ k. polls_of (record {
-        number = k;
-        reader = d.reader;
-        writer = d.writer;
-        piece = d.core.piece;
-      }) past) n
-      ∙ ap (λ h. polls_of (record {
-        number = c.number;
-        reader = h;
-        writer = d.writer;
-        piece = d.core.piece;
-      }) past) r
-      ∙ ap (λ h. polls_of (record {
-        number = c.number;
-        reader = c.reader;
-        writer = h;
-        piece = d.core.piece;
-      }) past) w) by;
+      (ap (λ k. polls_by k d.reader d.writer past) n
+      ∙ ap (λ h. polls_by c.number h d.writer past) r
+      ∙ ap (λ h. polls_by c.number c.reader h past) w) by;
 }
-
--- its size stays
-heard_size : (c : CopierState) (act : Act) → (heard c act).core.piece ≡ c.core.piece
-heard_size c act = grind arith
 
 either : (x a b : Bool) → x ≡ false → (a || b) ≡ true → (not x && (a || b)) ≡ true
 either x a b something is = grind arith
@@ -164,24 +143,15 @@ module _ (now : Moment) (past : List Moment) (h : ℕ) (by_h : now.event.party �
       (subst (InOrder (heard c now.event.act).core.next)
       (sym (since_other c.number c.writer now past made other))
       (reader_order c.number c.reader c.writer c.core.piece c.core.copied c.core.is_short c.piece
-      (acts_of_owner c.reader (events past)) (acts_of_owner c.writer (events past))
-      (acts_since c.number c.reader past) (acts_since c.number c.writer past)
-      (polls_of (shown c) past) c.core.next now.event.act asked t.by
+      _ _ _ _ _ c.core.next now.event.act asked t.by
       (ap (λ g. under_way (acts_of_owner g (events past))) same ∙ runs) t.order))
       (of_same (heard c now.event.act) (own_this c.reader now.event (events past) mine)
       (own_other c.writer now.event (events past) other)
       (since_this c.number c.reader now past made mine)
       (since_other c.number c.writer now past made other)
-      (ap (λ n. polls_of (record {
-        number = c.number;
-        reader = c.reader;
-        writer = c.writer;
-        piece = n;
-      }) (now ∷ past)) (heard_size c now.event.act) ∙ polls_more c t its)
+      (polls_more c t its)
       (reader_acts c.number c.reader c.writer c.core.piece c.core.copied c.core.is_short c.piece
-      (acts_of_owner c.reader (events past)) (acts_of_owner c.writer (events past))
-      (acts_since c.number c.reader past) (acts_since c.number c.writer past)
-      (polls_of (shown c) past) c.core.next now.event.act asked t.by
+      _ _ _ _ _ c.core.next now.event.act asked t.by
       (ap (λ g. under_way (acts_of_owner g (events past))) same ∙ runs) (subst
       (λ g. StepAs asked (acts_of_owner g (events past)) now.event.act) (sym same) step)))
 
@@ -200,25 +170,16 @@ module _ (now : Moment) (past : List Moment) (h : ℕ) (by_h : now.event.party �
       (subst (InOrder (heard c now.event.act).core.next)
       (sym (since_this c.number c.writer now past made mine))
       (writer_order c.number c.reader c.writer c.core.piece c.core.copied c.core.is_short c.piece
-      (acts_of_owner c.reader (events past)) (acts_of_owner c.writer (events past))
-      (acts_since c.number c.reader past) (acts_since c.number c.writer past)
-      (polls_of (shown c) past) c.core.next now.event.act asked t.by
+      _ _ _ _ _ c.core.next now.event.act asked t.by
       (ap (λ g. under_way (acts_of_owner g (events past))) same ∙ runs) (subst (λ g.
       StepAs asked (acts_of_owner g (events past)) now.event.act) (sym same) step) t.order))
       (of_same (heard c now.event.act) (own_other c.reader now.event (events past) other)
       (own_this c.writer now.event (events past) mine)
       (since_other c.number c.reader now past made other)
       (since_this c.number c.writer now past made mine)
-      (ap (λ n. polls_of (record {
-        number = c.number;
-        reader = c.reader;
-        writer = c.writer;
-        piece = n;
-      }) (now ∷ past)) (heard_size c now.event.act) ∙ polls_more c t its)
+      (polls_more c t its)
       (writer_acts c.number c.reader c.writer c.core.piece c.core.copied c.core.is_short c.piece
-      (acts_of_owner c.reader (events past)) (acts_of_owner c.writer (events past))
-      (acts_since c.number c.reader past) (acts_since c.number c.writer past)
-      (polls_of (shown c) past) c.core.next now.event.act asked t.by
+      _ _ _ _ _ c.core.next now.event.act asked t.by
       (ap (λ g. under_way (acts_of_owner g (events past))) same ∙ runs) (subst
       (λ g. StepAs asked (acts_of_owner g (events past)) now.event.act) (sym same) step)))
 
