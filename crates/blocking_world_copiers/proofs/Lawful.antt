@@ -31,7 +31,7 @@ use Rattle.blocking_world_copiers.proofs.OrderSteps.{asks_order}
 use Rattle.blocking_world_copiers.proofs.Seen.{own_other, own_this, since_other, since_this}
 use Rattle.blocking_world_copiers.proofs.Seen.{polls_this, its_own, not_own}
 use Rattle.blocking_world_copiers.proofs.Stays.{MakesNext, aside, all_aside, of_same, makes_none}
-use Rattle.blocking_world_copiers.proofs.Stays.{links_grow, flip}
+use Rattle.blocking_world_copiers.proofs.Stays.{links_grow, flip, lent_once}
 
 -- ---- one copier of them
 
@@ -91,20 +91,9 @@ module _ (now : Moment) (past : List Moment)
           let same : x ≡ c = cc in (
             subst (λ y. CopierAs y (now ∷ past)) (sym same) asks,
             all_aside cs now past next (λ h of_h some. subst (λ n. is_lent n cs ≡ false)
-                (owner_is h of_h) (out_of (subst (λ y. belongs g y ≡ true) (sym same) its))) t.1,
+                (owner_is h of_h) (lent_once g x cs
+                (subst (λ y. belongs g y ≡ true) (sym same) its) apart.1 apart.2)) t.1,
           )
-        where
-          out_of : belongs g x ≡ true → is_lent g cs ≡ false
-          out_of mine = here (x.reader == g) (x.writer == g) refl refl mine
-            where
-              here : (a b : Bool) → (x.reader == g) ≡ a → (x.writer == g) ≡ b → belongs g x ≡ true
-                  → is_lent g cs ≡ false
-              here true b r w mine =
-                  subst (λ n. is_lent n cs ≡ false) (eqb-true x.reader g r) apart.1
-              here false true r w mine =
-                  subst (λ n. is_lent n cs ≡ false) (eqb-true x.writer g w) apart.2
-              here false false r w mine = let none =
-                  sym (ap (λ b. b || (x.writer == g)) r ∙ w) ∙ mine in absurd cc
       by false is found more = (
         aside x now past next (λ h of_h some. subst (λ n. belongs n x ≡ false) (owner_is h of_h)
             (apart_from x cs found apart.1 apart.2)) t.0,

@@ -1,7 +1,6 @@
 -- What owners do that are lent to copiers.
-use Rattle.std.proofs.Common.{◌≡◌, ℕ, ◌<◌, ◌==◌, ◌&&◌, ◌||◌, not, if◌then◌else◌, List, [], ◌∷◌}
-use Rattle.std.proofs.Common.{Bool, true, false, refl, sym, ap, ◌∙◌, subst, Some, None, arith}
-use Rattle.std.proofs.lemmas.Bool.{eqb-true}
+use Rattle.std.proofs.Common.{◌≡◌, ⊎_elim, ℕ, ◌<◌, ◌==◌, ◌&&◌, ◌||◌, not, if◌then◌else◌, List, []}
+use Rattle.std.proofs.Common.{◌∷◌, Bool, true, false, refl, sym, ap, ◌∙◌, subst, Some, None, arith}
 use Rattle.blocking_world_laws.specs.Copies.{acts_since, polls_of}
 use Rattle.blocking_world_laws.specs.Lent.{links}
 use Rattle.blocking_world_laws.specs.Seen.{EachMayFollow, events, cut, own, acts_of_owner}
@@ -22,7 +21,7 @@ use Rattle.blocking_world_copiers.proofs.OrderSteps.{reader_order, writer_order}
 use Rattle.blocking_world_copiers.proofs.Seen.{is_own, own_other, own_this, since_other, since_this}
 use Rattle.blocking_world_copiers.proofs.Seen.{polls_this, its_own, not_own}
 use Rattle.blocking_world_copiers.proofs.Stays.{MakesNext, aside, all_aside, of_same, makes_none}
-use Rattle.blocking_world_copiers.proofs.Stays.{links_grow, flip}
+use Rattle.blocking_world_copiers.proofs.Stays.{links_grow, flip, belongs_is, lent_once}
 
 -- ---- an owner that rests
 
@@ -129,10 +128,9 @@ module _ (now : Moment) (past : List Moment) (h : ℕ) (by_h : now.event.party �
       omega (arith, grow, known)
 
   -- its reader's act
-  hears_reader : (c : CopierState) → CopierAs c past → (c.reader == h) ≡ true → belongs h c ≡ true
+  hears_reader : (c : CopierState) → CopierAs c past → c.reader ≡ h → belongs h c ≡ true
       → CopierAs (heard c now.event.act) (now ∷ past)
-  hears_reader c t reads its =
-      let same : c.reader ≡ h = eqb-true c.reader h reads in
+  hears_reader c t same its =
       let made = makes_none c.number now.step now.event.act (links past) t.known next in
       let mine : is_own c.reader now.event ≡ true = subst (λ g. is_own g now.event ≡ true)
       (sym same) (its_own h now.event by_h something own_act) in
@@ -157,9 +155,8 @@ module _ (now : Moment) (past : List Moment) (h : ℕ) (by_h : now.event.party �
 
   -- its writer's act
   hears_writer : (c : CopierState) → CopierAs c past → (c.reader == h) ≡ false
-      → (c.writer == h) ≡ true → belongs h c ≡ true → CopierAs (heard c now.event.act) (now ∷ past)
-  hears_writer c t reads writes its =
-      let same : c.writer ≡ h = eqb-true c.writer h writes in
+      → c.writer ≡ h → belongs h c ≡ true → CopierAs (heard c now.event.act) (now ∷ past)
+  hears_writer c t reads same its =
       let made = makes_none c.number now.step now.event.act (links past) t.known next in
       let mine : is_own c.writer now.event ≡ true = subst (λ g. is_own g now.event ≡ true)
       (sym same) (its_own h now.event by_h something own_act) in
@@ -185,28 +182,8 @@ module _ (now : Moment) (past : List Moment) (h : ℕ) (by_h : now.event.party �
 
   hears : (c : CopierState) → CopierAs c past → belongs h c ≡ true
       → CopierAs (heard c now.event.act) (now ∷ past)
-  hears c t its = by (c.reader == h) (c.writer == h) refl refl its
-    where
-      by : (x y : Bool) → (c.reader == h) ≡ x → (c.writer == h) ≡ y
-          → (c.reader == h || c.writer == h) ≡ true → CopierAs (heard c now.event.act) (now ∷ past)
-      by true y reads writes its = hears_reader c t reads its
-      by false true reads writes its = hears_writer c t reads writes its
-      by false false reads writes its = let none =
-          sym (ap (λ b. b || (c.writer == h)) reads ∙ writes) ∙ its in absurd cc
-
-  -- its owner is lent to no other
-  alone : (c : CopierState) (more : List CopierState) → belongs h c ≡ true
-      → is_lent c.reader more ≡ false → is_lent c.writer more ≡ false → is_lent h more ≡ false
-  alone c more its reader writer = by (c.reader == h) (c.writer == h) refl refl its
-    where
-      by : (x y : Bool) → (c.reader == h) ≡ x → (c.writer == h) ≡ y
-          → (c.reader == h || c.writer == h) ≡ true → is_lent h more ≡ false
-      by true y reads writes its =
-          subst (λ g. is_lent g more ≡ false) (eqb-true c.reader h reads) reader
-      by false true reads writes its =
-          subst (λ g. is_lent g more ≡ false) (eqb-true c.writer h writes) writer
-      by false false reads writes its = let none =
-          sym (ap (λ b. b || (c.writer == h)) reads ∙ writes) ∙ its in absurd cc
+  hears c t its = ⊎_elim (λ reads. hears_reader c t reads its)
+      (λ writes. hears_writer c t writes.0 writes.1 its) (belongs_is h c its)
 
   same_owner : (g : ℕ) → now.event.party ≡ ByOwner g → g ≡ h
   same_owner g is = let both = sym is ∙ by_h in cc
@@ -222,7 +199,7 @@ module _ (now : Moment) (past : List Moment) (h : ℕ) (by_h : now.event.party �
       by true its heard_more = (
         hears c t.0 its,
         all_aside more now past next (λ g is some. subst (λ k. is_lent k more ≡ false)
-            (sym (same_owner g is)) (alone c more its apart.1 apart.2)) t.1,
+            (sym (same_owner g is)) (lent_once h c more its apart.1 apart.2)) t.1,
       )
       by false not_its heard_more = (
         aside c now past next (λ g is some.

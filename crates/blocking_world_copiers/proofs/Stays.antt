@@ -1,7 +1,7 @@
 -- What each event leaves of the copiers.
-use Rattle.std.proofs.Common.{◌≡◌, ℕ, ◌<◌, ◌≤◌, ◌==◌, ◌&&◌, ◌||◌, not, if◌then◌else◌, List, [], ◌∷◌}
-use Rattle.std.proofs.Common.{map, Bool, true, false, refl, sym, ap, ◌∙◌, subst, Some, None}
-use Rattle.std.proofs.Common.{option_map, arith}
+use Rattle.std.proofs.Common.{◌≡◌, ◌⊎◌, ⊎_elim, inl, inr, ℕ, ◌<◌, ◌≤◌, ◌==◌, ◌&&◌, ◌||◌, not}
+use Rattle.std.proofs.Common.{if◌then◌else◌, List, [], ◌∷◌, map, Bool, true, false, refl, sym, ap}
+use Rattle.std.proofs.Common.{◌∙◌, subst, Some, None, option_map, arith}
 use Rattle.std.proofs.lemmas.Bool.Decides.{nat_tests}
 use Rattle.std.proofs.lemmas.Bool.{eqb-true}
 use Rattle.blocking_world_laws.specs.Copies.{makes_copier, is_by_either}
@@ -52,6 +52,23 @@ IsOut c e = (h : ℕ) → e.party ≡ ByOwner h → is_nothing e.act ≡ false �
 
 pub flip : (n m : ℕ) → (n == m) ≡ (m == n)
 flip n m = grind (arith, nat_tests)
+
+-- An owner that belongs to a copier is its reader, or else its writer.
+pub belongs_is : (h : ℕ) (c : CopierState) → belongs h c ≡ true
+    → (c.reader ≡ h) ⊎ (((c.reader == h) ≡ false) × (c.writer ≡ h))
+belongs_is h c its = by (c.reader == h) refl its
+  where
+    by : (b : Bool) → (c.reader == h) ≡ b → (b || c.writer == h) ≡ true
+        → (c.reader ≡ h) ⊎ (((c.reader == h) ≡ false) × (c.writer ≡ h))
+    by true is its = inl (eqb-true c.reader h is)
+    by false is its = inr (is, eqb-true c.writer h its)
+
+-- It is lent to none of those to which neither of these is.
+pub lent_once : (h : ℕ) (c : CopierState) (more : List CopierState) → belongs h c ≡ true
+    → is_lent c.reader more ≡ false → is_lent c.writer more ≡ false → is_lent h more ≡ false
+lent_once h c more its reader writer =
+    ⊎_elim (λ reads. subst (λ g. is_lent g more ≡ false) reads reader)
+    (λ writes. subst (λ g. is_lent g more ≡ false) writes.1 writer) (belongs_is h c its)
 
 out_by : (c : CopierState) (p : Party) (nothing : Bool)
     → ((h : ℕ) → p ≡ ByOwner h → nothing ≡ false → belongs h c ≡ false)
