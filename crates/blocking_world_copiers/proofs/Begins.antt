@@ -1,5 +1,5 @@
 -- New assemblies are lawful.
-use Rattle.std.proofs.Common.{◌≡◌, ◌<◌, ℕ, List, [], Bool, refl, sym, subst, Option}
+use Rattle.std.proofs.Common.{◌≡◌, ◌<◌, ℕ, List, [], Bool, refl, sym, subst}
 use Rattle.blocking_pool.specs.Pools.{empty_pool}
 use Rattle.blocking_world_state.proofs.laws.Whole.{begins_lawful}
 use Rattle.blocking_world_copiers.specs.Assemblies.{Assembled}

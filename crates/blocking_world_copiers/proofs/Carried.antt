@@ -10,13 +10,11 @@ use Rattle.blocking_world_laws.specs.declared.step.Step.{Step}
 use Rattle.blocking_world_laws.specs.declared.step.Step.TheVariants.{Ask, Own, DropOwner, Link}
 use Rattle.blocking_world_laws.specs.declared.step.Step.TheVariants.{Copy}
 use Rattle.blocking_world_laws.specs.declared.step.HandleCall.{HandleCall}
-use Rattle.blocking_world_state.specs.Carried.{bytes_of, bytes_of_call}
-use Rattle.blocking_world_state.specs.Carried.{bytes_to_come as bytes_of_parts}
+use Rattle.blocking_world_state.specs.Carried.{bytes_of, bytes_to_come as bytes_of_parts}
 use Rattle.blocking_world_state.proofs.laws.Whole.{carried}
-use Rattle.blocking_world_copiers.specs.Assemblies.{Assembled, Tells, Takes, Polls, Links, Ends}
-use Rattle.blocking_world_copiers.specs.Assemblies.{Copies, IfLent, IfLinks, IfCopies, CopiesAt}
-use Rattle.blocking_world_copiers.specs.Assemblies.{Does, may_link_in, may_copy_in, bytes_to_copy}
-use Rattle.blocking_world_copiers.specs.Assemblies.{bytes_to_come}
+use Rattle.blocking_world_copiers.specs.Assemblies.{Assembled, Takes, Copies, IfLent, IfLinks}
+use Rattle.blocking_world_copiers.specs.Assemblies.{IfCopies, CopiesAt, Does, may_link_in}
+use Rattle.blocking_world_copiers.specs.Assemblies.{may_copy_in, bytes_to_copy, bytes_to_come}
 use Rattle.blocking_world_copiers.specs.Copiers.{CopierState, copier_at, is_lent, next_of}
 use Rattle.blocking_world_copiers.specs.Copiers.{next_bytes, bytes_in_call}
 use Rattle.blocking_world_copiers.specs.declared.copier.CopierNext.{CopierNext}

@@ -22,24 +22,20 @@ use Rattle.blocking_world_laws.specs.Sessions.{jobs_of, ends_close}
 use Rattle.blocking_world_laws.specs.declared.event.Act.TheVariants.{Answered}
 use Rattle.blocking_world_laws.specs.declared.event.Moment.{Moment}
 use Rattle.blocking_world_copiers.specs.Ties.{asks_writes, ends_flush, asks_flushes, IsJustFlushed}
-use Rattle.blocking_world_copiers.proofs.Words.{Kind, Writing, Session, State, In, OwnerActs}
-use Rattle.blocking_world_copiers.proofs.Words.{OwnerMayAct, OwnerLaw, OwnerLaws, Polls}
-use Rattle.blocking_world_copiers.proofs.Words.{OwnerAction, Begin, Fill, CloseOwn, PollSlot, Say}
-use Rattle.blocking_world_copiers.proofs.Words.{data_of, last_job, own, is_some_worker, call}
-use Rattle.blocking_world_copiers.proofs.Words.{under_way, last_session, session, is_closed}
-use Rattle.blocking_world_copiers.proofs.Words.{is_shut, state, state_by, Act, Made, Asked}
-use Rattle.blocking_world_copiers.proofs.Words.{Accepted, OwnerClosed, Filled, Back, Replied}
-use Rattle.blocking_world_copiers.proofs.Words.{HolderDropped, Event, Reply, Okay, HandleCall}
-use Rattle.blocking_world_copiers.proofs.Words.{Write, Flush}
-use Rattle.blocking_world_copiers.proofs.Polls.{acts_now, own_not, own_more, no_ask, under_way_call}
+use Rattle.blocking_world_copiers.proofs.Words.{Writing, Session, In, OwnerActs, OwnerMayAct}
+use Rattle.blocking_world_copiers.proofs.Words.{OwnerLaws, Polls, data_of, last_job, own}
+use Rattle.blocking_world_copiers.proofs.Words.{is_some_worker, call, under_way, last_session}
+use Rattle.blocking_world_copiers.proofs.Words.{session, is_closed, is_shut, state, state_by, Act}
+use Rattle.blocking_world_copiers.proofs.Words.{Asked, Accepted, OwnerClosed, Filled, Back, Replied}
+use Rattle.blocking_world_copiers.proofs.Words.{Event, Reply, Okay, HandleCall, Write, Flush}
+use Rattle.blocking_world_copiers.proofs.Polls.{acts_now, own_not, own_more, own_after, own_law}
+use Rattle.blocking_world_copiers.proofs.Polls.{no_ask, under_way_call}
 use Rattle.blocking_world_copiers.proofs.Owners.{IsIdle, idle_rests, idle_as}
-use Rattle.blocking_world_copiers.proofs.Orders.{asked_write, writes_flush, writes_before}
-use Rattle.blocking_world_copiers.proofs.Orders.{flushes_before, flushes_write, IsToWriter}
-use Rattle.blocking_world_copiers.proofs.Orders.{flushes_asked}
+use Rattle.blocking_world_copiers.proofs.Orders.{asked_write, writes_before, flushes_before}
+use Rattle.blocking_world_copiers.proofs.Orders.{flushes_write, IsToWriter, flushes_asked}
 use Rattle.blocking_world_copiers.proofs.NextActs.{EndsAs, ends_as, shut_now, in_last, fills_open}
 use Rattle.blocking_world_copiers.proofs.NextActs.{IsOfWrite, write_next, IsOfFlush, flush_next}
-use Rattle.blocking_world_copiers.proofs.NextActs.{IsJustBack, back_under, not_at_end, IsEnd}
-use Rattle.blocking_world_copiers.proofs.NextActs.{after_return}
+use Rattle.blocking_world_copiers.proofs.NextActs.{IsJustBack, back_under, not_at_end, after_return}
 
 -- ---- endings
 
@@ -249,53 +245,36 @@ call_on : (act : Act) (s t : List Act)
 call_on (Asked one) s t agrees asked called = called
 call_on act s t agrees asked called = agrees asked called
 
+-- An event of a job leaves both, and one of the owner's own comes to both.
+both_after : (P : List Act → List Act → Type 0) (now : Event) (recent before : List Event)
+    → (is_some_worker now.party ≡ true → P (own recent) (own (recent ++ before)))
+    → (is_some_worker now.party ≡ false
+    → P (now.act ∷ own recent) (now.act ∷ own (recent ++ before)))
+    → P (own (now ∷ recent)) (own (now ∷ recent ++ before))
+both_after P now recent before job mine =
+    own_after (λ s. P s (own (now ∷ recent ++ before))) now recent
+    (λ is. subst (λ t. P (own recent) t) (sym (own_not now (recent ++ before) is)) (job is))
+    (λ is. subst (λ t. P (now.act ∷ own recent) t) (sym (own_more now (recent ++ before) is))
+    (mine is))
+
 call_since : (recent before : List Event) (asked : HandleCall) → call (own recent) ≡ Some asked
     → call (own (recent ++ before)) ≡ Some asked
 call_since [] before asked called = absurd cc
 call_since (now ∷ recent) before asked called =
-    by (is_some_worker now.party) refl (call_since recent before)
-  where
-    by : (b : Bool) → is_some_worker now.party ≡ b → ((one : HandleCall)
-        → call (own recent) ≡ Some one → call (own (recent ++ before)) ≡ Some one)
-        → call (own (now ∷ recent ++ before)) ≡ Some asked
-    by true is was = ap call (own_not now (recent ++ before) is)
-        ∙ was asked (sym (ap call (own_not now recent is)) ∙ called)
-    by false is was = ap call (own_more now (recent ++ before) is) ∙ call_on now.act (own recent)
-        (own (recent ++ before)) was asked (sym (ap call (own_more now recent is)) ∙ called)
-
--- an event of a job leaves both
-unmoved : (P : List Act → List Act → Type 0) (now : Event) (recent before : List Event)
-    → is_some_worker now.party ≡ true → P (own recent) (own (recent ++ before))
-    → P (own (now ∷ recent)) (own (now ∷ recent ++ before))
-unmoved P now recent before is was =
-    subst (λ l. P l (own (now ∷ recent ++ before))) (sym (own_not now recent is))
-    (subst (λ l. P (own recent) l) (sym (own_not now (recent ++ before) is)) was)
-
--- and one of the owner's own comes to both
-moved : (P : List Act → List Act → Type 0) (now : Event) (recent before : List Event)
-    → is_some_worker now.party ≡ false → P (now.act ∷ own recent) (now.act ∷ own (recent ++ before))
-    → P (own (now ∷ recent)) (own (now ∷ recent ++ before))
-moved P now recent before is comes =
-    subst (λ l. P l (own (now ∷ recent ++ before))) (sym (own_more now recent is))
-    (subst (λ l. P (now.act ∷ own recent) l) (sym (own_more now (recent ++ before) is)) comes)
+    let was = call_since recent before in
+    both_after (λ s t. call s ≡ Some asked → call t ≡ Some asked) now recent before
+    (λ is. was asked) (λ is. call_on now.act (own recent) (own (recent ++ before)) was asked) called
 
 writes_since : (recent before : List Event) → OwnerLaws (recent ++ before)
     → asks_writes (own recent) ≡ true → Writes (own recent) (own (recent ++ before))
 writes_since [] before laws order = inl refl
 writes_since (now ∷ recent) before laws order =
-    by (is_some_worker now.party) refl laws.0.acts (writes_since recent before laws.1)
-  where
-    by : (b : Bool) → is_some_worker now.party ≡ b → OwnerMayAct b (recent ++ before) now
-        → (asks_writes (own recent) ≡ true → Writes (own recent) (own (recent ++ before)))
-        → Writes (own (now ∷ recent)) (own (now ∷ recent ++ before))
-    by true is acts was = unmoved Writes now recent before is
-        (was (sym (ap asks_writes (own_not now recent is)) ∙ order))
-    by false is acts was =
-        let earlier = writes_before now.act (own recent)
-        (sym (ap asks_writes (own_more now recent is)) ∙ order) in
-        moved Writes now recent
-        before is (writes_on (own recent) (recent ++ before) now.act (call_since recent before)
-        (ends_as (recent ++ before) laws.1) acts earlier (was earlier))
+    let was = writes_since recent before laws.1 in
+    both_after (λ s t. asks_writes s ≡ true → Writes s t) now recent before (λ is. was)
+    (λ is comes. let earlier = writes_before now.act (own recent) comes in
+    writes_on (own recent) (recent ++ before) now.act (call_since recent before)
+    (ends_as (recent ++ before) laws.1) (own_law now (recent ++ before) laws is) earlier
+    (was earlier)) order
 
 -- where the flush is asked, and while it is under way
 module _ (recent before : List Event) (laws : OwnerLaws (recent ++ before))
@@ -349,19 +328,11 @@ flushes_since : (recent before : List Event) → OwnerLaws (recent ++ before)
     → Flushes (own recent) (own (recent ++ before))
 flushes_since [] before laws order called = absurd cc
 flushes_since (now ∷ recent) before laws order called =
-    by (is_some_worker now.party) refl laws.0.acts (flushes_since recent before laws.1)
-  where
-    by : (b : Bool) → is_some_worker now.party ≡ b → OwnerMayAct b (recent ++ before) now
-        → (asks_flushes (own recent) ≡ true → call (own recent) ≡ Some Flush
-        → Flushes (own recent) (own (recent ++ before)))
-        → Flushes (own (now ∷ recent)) (own (now ∷ recent ++ before))
-    by true is acts was = unmoved
-        Flushes now recent before is (was (sym (ap asks_flushes (own_not now recent is)) ∙ order)
-        (sym (ap call (own_not now recent is)) ∙ called))
-    by false is acts was =
-        let here = own_more now recent is in
-        moved Flushes now recent before is (flush_acts recent before laws.1 was now.act acts
-        (sym (ap asks_flushes here) ∙ order) (sym (ap call here) ∙ called))
+    let was = flushes_since recent before laws.1 in
+    both_after (λ s t. asks_flushes s ≡ true → call s ≡ Some Flush → Flushes s t) now recent before
+    (λ is. was)
+    (λ is. flush_acts recent before laws.1 was now.act (own_law now (recent ++ before) laws is))
+    order called
 
 -- ---- where the handle came back
 
@@ -486,18 +457,14 @@ job_after now cut is acts r = by now.act refl
 returned : (cut : List Event) → OwnerLaws cut → IsJustBack (own cut) → Returned cut
 returned [] laws back = absurd back
 returned (now ∷ cut) laws back =
-    by (is_some_worker now.party) refl laws.0.acts (returned cut laws.1)
+    own_after (λ l. IsJustBack l → Returned (now ∷ cut)) now cut
+    (λ is back. job_after now cut is (subst (λ b. OwnerMayAct b cut now) is laws.0.acts)
+    (returned cut laws.1 back))
+    (λ is back. here_back now cut (is_back now.act refl back)) back
   where
     is_back : (act : Act) → now.act ≡ act → IsJustBack (act ∷ own cut) → now.act ≡ Back
     is_back Back same back = same
     is_back act same back = absurd back
-
-    by : (b : Bool) → is_some_worker now.party ≡ b → OwnerMayAct b cut now
-        → (IsJustBack (own cut) → Returned cut) → Returned (now ∷ cut)
-    by true is acts was =
-        job_after now cut is acts (was (subst IsJustBack (own_not now cut is) back))
-    by false is acts was =
-        here_back now cut (is_back now.act refl (subst IsJustBack (own_more now cut is) back))
 
 -- ---- where the flush has ended
 
@@ -565,7 +532,11 @@ taken_since : (recent before : List Event) → OwnerLaws (recent ++ before)
     → IsJustFlushed (own recent) → HasTaken (own recent) (recent ++ before)
 taken_since [] before laws flushed = absurd flushed
 taken_since (now ∷ recent) before laws flushed =
-    by (is_some_worker now.party) refl laws.0.acts (taken_since recent before laws.1)
+    own_after (λ s. IsJustFlushed s → HasTaken s (now ∷ recent ++ before)) now recent
+    (λ is flushed. let more = own_not now (recent ++ before) is in
+    stays_taken (own recent) now (recent ++ before) (ap last_session more) (ap accepted more) laws
+    (taken_since recent before laws.1 flushed))
+    (λ is. ends now.act refl is (own_law now (recent ++ before) laws is) laws.0.ends) flushed
   where
     ends : (act : Act) → now.act ≡ act → is_some_worker now.party ≡ false
         → OwnerActs (recent ++ before) act → EndsTruly (recent ++ before) act
@@ -579,19 +550,6 @@ taken_since (now ∷ recent) before laws flushed =
         stays_taken (Replied Okay ∷ own recent) now (recent ++ before) (ap last_session more)
         (ap accepted more) laws here
     ends act is own_act does truly flushed = absurd flushed
-
-    by : (b : Bool) → is_some_worker now.party ≡ b → OwnerMayAct b (recent ++ before) now
-        → (IsJustFlushed (own recent) → HasTaken (own recent) (recent ++ before))
-        → HasTaken (own (now ∷ recent)) (now ∷ recent ++ before)
-    by true is acts was =
-        let more = own_not now (recent ++ before) is in
-        subst (λ l. HasTaken l (now ∷ recent ++ before)) (sym (own_not now recent is))
-        (stays_taken (own recent) now (recent ++ before) (ap last_session more) (ap accepted more)
-        laws (was (subst IsJustFlushed (own_not now recent is) flushed)))
-    by false is acts was =
-        subst (λ l. HasTaken l (now ∷ recent ++ before))
-        (sym (own_more now recent is)) (ends now.act refl is acts laws.0.ends
-        (subst IsJustFlushed (own_more now recent is) flushed))
 
 -- ---- over all sessions
 

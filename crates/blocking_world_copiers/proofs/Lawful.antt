@@ -1,81 +1,37 @@
 -- Each step keeps the copiers tied to what was seen, and the laws.
-use Rattle.std.proofs.Common.{◌≡◌, ◌⊎◌, ⊎_elim, inl, inr, ℕ, zero, suc, ◌+◌, ◌<◌, ◌≤◌, ◌==◌, ◌&&◌}
-use Rattle.std.proofs.Common.{◌||◌, not, cond, if◌then◌else◌, nat_lt, List, [], ◌∷◌, ◌++◌, length}
-use Rattle.std.proofs.Common.{map, min, take, drop, ◌^◌, ◌-◌, Bool, true, false, refl, sym, ap, ◌∙◌}
-use Rattle.std.proofs.Common.{subst, Option, Some, None, is_some, option_map, slice_get, arith}
-use Rattle.std.proofs.Common.{append-nil, append_assoc}
+use Rattle.std.proofs.Common.{◌≡◌, ◌⊎◌, ⊎_elim, inl, inr, ℕ, ◌<◌, ◌==◌, ◌&&◌, ◌||◌, not}
+use Rattle.std.proofs.Common.{if◌then◌else◌, List, [], ◌∷◌, ◌++◌, length, min, take, drop, ◌^◌, ◌-◌}
+use Rattle.std.proofs.Common.{Bool, true, false, refl, sym, ap, ◌∙◌, subst, Option, Some, None}
+use Rattle.std.proofs.Common.{arith, append-nil, append_assoc}
 use Rattle.std.proofs.lemmas.Bool.Decides.{nat_tests}
 use Rattle.std.proofs.lemmas.Bool.{eqb-true, eq-eqb}
 use Rattle.std.proofs.lemmas.List.{take-append-drop}
 use Rattle.blocking_core.specs.declared.copy.CopyAction.{CopyAction}
 use Rattle.blocking_core.specs.declared.copy.CopyAction.TheVariants as action
 use Rattle.blocking_core.specs.declared.copy.CopyEnd.TheVariants as end
-use Rattle.blocking_world_laws.specs.Copies.{CopierAction, AskReader, AskWriter, Tells as TellsEnd}
-use Rattle.blocking_world_laws.specs.Copies.{Outcome, NotAsked, NoReply, HasReplied, CopyLaw}
-use Rattle.blocking_world_laws.specs.Copies.{IsCopied, StepTells, makes_copier, acts_since}
-use Rattle.blocking_world_laws.specs.Copies.{polls_of, read_by, written_by, all_got, all_accepted}
-use Rattle.blocking_world_laws.specs.Copies.{is_short, outcome, next_of_copier}
-use Rattle.blocking_world_laws.specs.Copies.{next_by as law_next_by}
-use Rattle.blocking_world_laws.specs.Growth.{IsPlanned}
-use Rattle.blocking_world_laws.specs.Legal.{Legal}
-use Rattle.blocking_world_laws.specs.Lent.{Copier, copiers, copiers_by, copier_in, has_owner, links}
-use Rattle.blocking_world_laws.specs.Lent.{is_linking, without_copier}
-use Rattle.blocking_world_laws.specs.Seen.{EachMayFollow, IsBeginning, events, cut, own}
-use Rattle.blocking_world_laws.specs.Seen.{acts_of_owner, is_nothing, is_of_pool, is_some_worker}
-use Rattle.blocking_world_laws.specs.Seen.{is_in_cut, is_owner}
-use Rattle.blocking_world_laws.specs.Sessions.{under_way, call, is_poll_over, is_made}
-use Rattle.blocking_world_laws.specs.Sessions.{is_owner_gone, is_closed, was_asked_inner, may_ask}
-use Rattle.blocking_world_laws.specs.Sessions.{rests}
-use Rattle.blocking_world_laws.specs.OwnerLaws.{OwnerLaw, OwnerLaws, OwnerActs, OwnerMayAct}
-use Rattle.blocking_world_laws.specs.Steps.{StepLaw, Happens, Fits, has_action, named, party}
-use Rattle.blocking_world_laws.specs.Steps.{job_of, owner_of, may_lend, may_copy, asked_by}
-use Rattle.blocking_world_laws.specs.Steps.{act_of_copier, IsOfCopier, copier_party}
-use Rattle.blocking_world_laws.specs.declared.event.Act.TheVariants.{Linked, NoAction}
-use Rattle.blocking_world_laws.specs.declared.event.Act.TheVariants.{Copied as CopiedAll}
-use Rattle.blocking_world_laws.specs.declared.event.Act.TheVariants.{CopyFailed}
+use Rattle.blocking_world_laws.specs.Copies.{Outcome, NotAsked, NoReply, HasReplied, makes_copier}
+use Rattle.blocking_world_laws.specs.Copies.{acts_since, polls_of, all_got, all_accepted, outcome}
+use Rattle.blocking_world_laws.specs.Copies.{next_of_copier, next_by as law_next_by}
+use Rattle.blocking_world_laws.specs.Lent.{Copier, links}
+use Rattle.blocking_world_laws.specs.Seen.{IsBeginning, events, acts_of_owner, is_nothing}
+use Rattle.blocking_world_laws.specs.Seen.{is_of_pool, is_owner}
+use Rattle.blocking_world_laws.specs.Sessions.{under_way, call, is_poll_over, may_ask, rests}
 use Rattle.blocking_world_laws.specs.declared.event.Moment.{Moment}
-use Rattle.blocking_world_laws.specs.declared.event.Party.{Party}
-use Rattle.blocking_world_laws.specs.declared.event.Party.TheVariants.{Owner as ByOwner, Pool, Task}
-use Rattle.blocking_world_laws.specs.declared.event.Party.TheVariants.{Worker}
+use Rattle.blocking_world_laws.specs.declared.event.Party.TheVariants.{Owner as ByOwner}
 use Rattle.blocking_world_laws.specs.declared.step.Step.{Step}
-use Rattle.blocking_world_laws.specs.declared.step.Step.TheVariants.{New, Ask, Own, DropOwner}
-use Rattle.blocking_world_laws.specs.declared.step.Step.TheVariants.{Spawn, OfTask, Arrive, Take}
-use Rattle.blocking_world_laws.specs.declared.step.Step.TheVariants.{Job, Io, End, Wait, Late}
-use Rattle.blocking_world_laws.specs.declared.step.Step.TheVariants.{SetLimit, Sweep, Stray, Strike}
-use Rattle.blocking_world_laws.specs.declared.step.Step.TheVariants.{Link, Copy}
-use Rattle.blocking_world_state.specs.Moves.{CopierMoves, Steps, may_ask_in, rests_in}
-use Rattle.blocking_world_state.specs.Parts.{Parts}
-use Rattle.blocking_world_state.specs.Ties.{IsFree, IsLawful as PartsAreLawful}
-use Rattle.blocking_world_state.proofs.laws.Actions.{asks_by as owner_rests}
-use Rattle.blocking_world_state.proofs.laws.Actions.{asked_by as owner_asked}
-use Rattle.blocking_world_state.proofs.laws.Whole.{stays_lawful, step_keeps, copier_lawful}
-use Rattle.blocking_world_copiers.specs.Assemblies.{Assembled, AllStay, Tells, Takes, Polls, Links}
-use Rattle.blocking_world_copiers.specs.Assemblies.{Ends, Copies, IfLent, IfLinks, IfCopies}
-use Rattle.blocking_world_copiers.specs.Assemblies.{CopiesAt, Does, may_lend_in, may_link_in}
-use Rattle.blocking_world_copiers.specs.Assemblies.{may_do_in, may_copy_in}
-use Rattle.blocking_world_copiers.specs.Copiers.{CopierState, shown, new_copier, belongs}
-use Rattle.blocking_world_copiers.specs.Copiers.{has_number, heard, between, next_by, next_of}
-use Rattle.blocking_world_copiers.specs.Copiers.{as_action, copier_at, is_lent, hear_first}
-use Rattle.blocking_world_copiers.specs.Copiers.{without_number}
-use Rattle.blocking_world_copiers.specs.Ties.{got_now, filled_now, IsOpen, InOrder, CopierOf}
-use Rattle.blocking_world_copiers.specs.Ties.{CopierBy, CopierAs, AreApart, AllAs, Copied, IsLawful}
-use Rattle.blocking_world_copiers.specs.Ties.{next_from, ReaderRests, WriterRests}
-use Rattle.blocking_world_copiers.specs.declared.copier.CopierNext.{CopierNext}
+use Rattle.blocking_world_copiers.specs.Copiers.{CopierState, shown, belongs, between, next_by}
+use Rattle.blocking_world_copiers.specs.Copiers.{next_of, as_action, copier_at, is_lent}
+use Rattle.blocking_world_copiers.specs.Ties.{got_now, filled_now, IsOpen, InOrder, CopierBy}
+use Rattle.blocking_world_copiers.specs.Ties.{CopierAs, AreApart, AllAs, next_from, WriterRests}
 use Rattle.blocking_world_copiers.specs.declared.copier.CopierNext.TheVariants as next
-use Rattle.blocking_world_copiers.proofs.Words.{Act, Made, Asked, Event, HandleCall, Read, Write}
-use Rattle.blocking_world_copiers.proofs.Words.{Flush, Okay}
-use Rattle.blocking_world_copiers.proofs.Polls.{IsCopiers, PollAs, WriteAs, CallAs, poll_as}
-use Rattle.blocking_world_copiers.proofs.Polls.{step_as}
-use Rattle.blocking_world_copiers.proofs.Copying.{asks_reader, asks_write, asks_flush}
+use Rattle.blocking_world_copiers.proofs.Words.{Act, Asked, HandleCall, Read, Write, Flush, Okay}
+use Rattle.blocking_world_copiers.proofs.Polls.{IsCopiers, PollAs, WriteAs, CallAs}
+use Rattle.blocking_world_copiers.proofs.Copying.{asks_reader, asks_write, asks_flush, wrote_before}
 use Rattle.blocking_world_copiers.proofs.OrderSteps.{asks_order}
-use Rattle.blocking_world_copiers.proofs.Seen.{is_own, own_other, own_this, since_other, since_this}
-use Rattle.blocking_world_copiers.proofs.Seen.{polls_this, its_own, not_own, own_is, links_same}
-use Rattle.blocking_world_copiers.proofs.Seen.{links_more}
-use Rattle.blocking_world_copiers.proofs.Stays.{MakesNext, IsOut, aside, all_aside, of_same}
-use Rattle.blocking_world_copiers.proofs.Stays.{makes_none, links_grow, flip, has_is, in_is}
-use Rattle.blocking_world_copiers.proofs.Stays.{hear_shown, without_shown, all_without}
-use Rattle.blocking_world_copiers.proofs.Stays.{apart_without}
-use Rattle.blocking_world_copiers.proofs.Owners.{all_hear, at_rest}
+use Rattle.blocking_world_copiers.proofs.Seen.{own_other, own_this, since_other, since_this}
+use Rattle.blocking_world_copiers.proofs.Seen.{polls_this, its_own, not_own}
+use Rattle.blocking_world_copiers.proofs.Stays.{MakesNext, aside, all_aside, of_same, makes_none}
+use Rattle.blocking_world_copiers.proofs.Stays.{links_grow, flip, lent_once}
 
 -- ---- one copier of them
 
@@ -135,20 +91,9 @@ module _ (now : Moment) (past : List Moment)
           let same : x ≡ c = cc in (
             subst (λ y. CopierAs y (now ∷ past)) (sym same) asks,
             all_aside cs now past next (λ h of_h some. subst (λ n. is_lent n cs ≡ false)
-                (owner_is h of_h) (out_of (subst (λ y. belongs g y ≡ true) (sym same) its))) t.1,
+                (owner_is h of_h) (lent_once g x cs
+                (subst (λ y. belongs g y ≡ true) (sym same) its) apart.1 apart.2)) t.1,
           )
-        where
-          out_of : belongs g x ≡ true → is_lent g cs ≡ false
-          out_of mine = here (x.reader == g) (x.writer == g) refl refl mine
-            where
-              here : (a b : Bool) → (x.reader == g) ≡ a → (x.writer == g) ≡ b → belongs g x ≡ true
-                  → is_lent g cs ≡ false
-              here true b r w mine =
-                  subst (λ n. is_lent n cs ≡ false) (eqb-true x.reader g r) apart.1
-              here false true r w mine =
-                  subst (λ n. is_lent n cs ≡ false) (eqb-true x.writer g w) apart.2
-              here false false r w mine = let none =
-                  sym (ap (λ b. b || (x.writer == g)) r ∙ w) ∙ mine in absurd cc
       by false is found more = (
         aside x now past next (λ h of_h some. subst (λ n. belongs n x ≡ false) (owner_is h of_h)
             (apart_from x cs found apart.1 apart.2)) t.0,
@@ -170,8 +115,7 @@ pub begins_by : (size : ℕ) (act : CopyAction ℕ) (copied : ℕ) (short : Bool
     (a b pa pb p : List Act) → CopierBy size act copied short piece a b pa pb p → PollAs b
     → IsBeginning (all_accepted pb) (all_got pa)
 begins_by size (action.Read most) copied short piece a b pa pb p t poll =
-    subst (λ l. IsBeginning l (all_got pa))
-    (sym (t.wrote ∙ ap (λ l. t.before ++ l) t.stands.2.1 ∙ append-nil t.before))
+    subst (λ l. IsBeginning l (all_got pa)) (sym (wrote_before t t.stands.2.1))
     (⊎_elim (λ rests. ([], rests.1 ∙ sym (append-nil t.before))) (λ now. (got_now a, now.1))
     t.stands.3)
 begins_by size (action.Write from to) copied short piece a b pa pb p t poll =
@@ -186,17 +130,15 @@ begins_by size (action.Write from to) copied short piece a b pa pb p t poll =
         ⊎_elim (λ calm. (between from to piece, ap (λ l. l ++ between from to piece) (sym calm.0)))
         (λ says. filled_so (between from to piece) (filled_now b) says.0 says.3) w.filled
 begins_by size action.Flush copied short piece a b pa pb p t poll =
-    subst (λ l. IsBeginning l (all_got pa)) (sym (t.wrote ∙ ap (λ l. t.before ++ l)
-    (⊎_elim (λ rests. rests.1) (λ now. now.1) t.stands.3) ∙ append-nil t.before)) t.stands.0
+    subst (λ l. IsBeginning l (all_got pa)) (sym (wrote_before t
+    (⊎_elim (λ rests. rests.1) (λ now. now.1) t.stands.3))) t.stands.0
 begins_by size (action.Done (end.Copied n)) copied short piece a b pa pb p t poll =
-    subst (λ l. IsBeginning l (all_got pa)) (sym (t.wrote ∙ ap (λ l. t.before ++ l) t.stands.3.1
-    ∙ append-nil t.before)) ([], sym t.stands.0 ∙ sym (append-nil t.before))
+    subst (λ l. IsBeginning l (all_got pa)) (sym (wrote_before t t.stands.3.1))
+    ([], sym t.stands.0 ∙ sym (append-nil t.before))
 begins_by size (action.Done (end.Reading why)) copied short piece a b pa pb p t poll =
-    subst (λ l. IsBeginning l (all_got pa))
-    (sym (t.wrote ∙ ap (λ l. t.before ++ l) t.stands.2.1 ∙ append-nil t.before)) t.stands.0
+    subst (λ l. IsBeginning l (all_got pa)) (sym (wrote_before t t.stands.2.1)) t.stands.0
 begins_by size (action.Done (end.Writing why)) copied short piece a b pa pb p t poll =
-    subst (λ l. IsBeginning l (all_got pa))
-    (sym (t.wrote ∙ ap (λ l. t.before ++ l) t.stands.2.1 ∙ append-nil t.before)) t.stands.0
+    subst (λ l. IsBeginning l (all_got pa)) (sym (wrote_before t t.stands.2.1)) t.stands.0
 
 -- what it tells is so
 pub copied_by : (size : ℕ) (act : CopyAction ℕ) (copied : ℕ) (short : Bool) (piece : List ℕ)
@@ -209,8 +151,7 @@ copied_by size (action.Write from to) copied short piece a b pa pb p n t is = ab
 copied_by size action.Flush copied short piece a b pa pb p n t is = absurd cc
 copied_by size (action.Done (end.Copied m)) copied short piece a b pa pb p n t is =
     let same : m ≡ n = cc in
-    let wrote : all_accepted pb ≡ t.before =
-    t.wrote ∙ ap (λ l. t.before ++ l) t.stands.3.1 ∙ append-nil t.before in (
+    let wrote : all_accepted pb ≡ t.before = wrote_before t t.stands.3.1 in (
       wrote ∙ t.stands.0,
       t.stands.4,
       t.stands.5,

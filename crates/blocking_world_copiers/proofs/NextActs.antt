@@ -1,24 +1,21 @@
 -- What the poll of a writer does next, by its call and by where its handle is.
-use Rattle.std.proofs.Common.{◌≡◌, ◌⊎◌, ⊎_elim, inl, inr, ℕ, zero, suc, ◌<◌, List, [], ◌∷◌, Bool}
-use Rattle.std.proofs.Common.{true, false, refl, sym, ap, ◌∙◌, subst, Option, Some, None, arith}
+use Rattle.std.proofs.Common.{◌≡◌, ⊎_elim, ℕ, ◌<◌, List, [], ◌∷◌, Bool, true, false, refl, sym}
+use Rattle.std.proofs.Common.{ap, ◌∙◌, subst, Option, Some, None, arith}
 use Rattle.blocking_world_laws.specs.Seen.{acts_of}
 use Rattle.blocking_world_laws.specs.Sessions.{Idle}
 use Rattle.blocking_world_copiers.proofs.Words.{Kind, Writing, Fault, Session, State, In, table}
-use Rattle.blocking_world_copiers.proofs.Words.{after_end, OwnerActs, OwnerMayAct, OwnerLaw}
-use Rattle.blocking_world_copiers.proofs.Words.{OwnerLaws, Polls, OwnerAction, Begin, Fill}
-use Rattle.blocking_world_copiers.proofs.Words.{CloseOwn, Receive, Drain, PollSlot, PollPlace}
-use Rattle.blocking_world_copiers.proofs.Words.{WakeJob, Say, Rest, at_asked, at_accepted, at_back}
-use Rattle.blocking_world_copiers.proofs.Words.{after_back, is_at_end, owner_next_but_wake}
+use Rattle.blocking_world_copiers.proofs.Words.{after_end, OwnerActs, OwnerLaws, Polls, OwnerAction}
+use Rattle.blocking_world_copiers.proofs.Words.{Begin, Fill, Say, Rest, at_asked, at_accepted}
+use Rattle.blocking_world_copiers.proofs.Words.{at_back, after_back, is_at_end, owner_next_but_wake}
 use Rattle.blocking_world_copiers.proofs.Words.{next_of_owner_by, has_begun, refusal, fault, number}
 use Rattle.blocking_world_copiers.proofs.Words.{last_session, session, is_closed, is_shut, state}
-use Rattle.blocking_world_copiers.proofs.Words.{state_by, own, is_some_worker, call, under_way, Act}
-use Rattle.blocking_world_copiers.proofs.Words.{Made, Asked, Accepted, Refused, OwnerClosed, Got}
-use Rattle.blocking_world_copiers.proofs.Words.{GotItem, GotEnd, Filled, Back, JobWoken, Replied}
-use Rattle.blocking_world_copiers.proofs.Words.{HolderDropped, Event, Reply, Okay, Failed}
-use Rattle.blocking_world_copiers.proofs.Words.{HandleCall, Read, Write, Flush, Next}
+use Rattle.blocking_world_copiers.proofs.Words.{state_by, own, call, under_way, Act, Made, Asked}
+use Rattle.blocking_world_copiers.proofs.Words.{Accepted, Refused, OwnerClosed, GotEnd, Back}
+use Rattle.blocking_world_copiers.proofs.Words.{JobWoken, Replied, HolderDropped, Event, Reply}
+use Rattle.blocking_world_copiers.proofs.Words.{Okay, Failed, HandleCall, Read, Write, Flush, Next}
 use Rattle.blocking_world_copiers.specs.Ties.{ends_flush}
-use Rattle.blocking_world_copiers.proofs.Polls.{IsFor, is_for, acts_now, own_not, own_more, no_poll}
-use Rattle.blocking_world_copiers.proofs.Polls.{no_ask, no_owner}
+use Rattle.blocking_world_copiers.proofs.Polls.{IsFor, is_for, acts_now, own_after, own_law}
+use Rattle.blocking_world_copiers.proofs.Polls.{no_poll, no_ask, no_owner}
 
 -- ---- the end of a pipe is seen by reads alone
 
@@ -51,12 +48,10 @@ ends_on cut act was does = tt
 
 pub ends_as : (cut : List Event) → OwnerLaws cut → EndsAs (own cut)
 ends_as [] laws = tt
-ends_as (now ∷ cut) laws = by (is_some_worker now.party) refl laws.0.acts (ends_as cut laws.1)
-  where
-    by : (b : Bool) → is_some_worker now.party ≡ b → OwnerMayAct b cut now → EndsAs (own cut)
-        → EndsAs (own (now ∷ cut))
-    by true is acts was = subst EndsAs (sym (own_not now cut is)) was
-    by false is acts was = subst EndsAs (sym (own_more now cut is)) (ends_on cut now.act was acts)
+ends_as (now ∷ cut) laws =
+    let was = ends_as cut laws.1 in
+    own_after EndsAs now cut (λ is. was)
+    (λ is. ends_on cut now.act was (own_law now cut laws is))
 
 -- ---- where a handle is
 

@@ -1,8 +1,8 @@
 -- What a copier does keeps the order in which it asks its writer.
-use Rattle.std.proofs.Common.{◌≡◌, ◌⊎◌, ⊎_elim, ℕ, zero, suc, ◌+◌, ◌-◌, ◌&&◌, not, nat_le, nat_lt}
-use Rattle.std.proofs.Common.{if◌then◌else◌, List, [], ◌∷◌, Bool, true, false, refl, sym, ap, ◌∙◌}
-use Rattle.std.proofs.Common.{subst, Option, Some, None, arith}
-use Rattle.blocking_core.specs.Copying.{next_after, next_in_piece, end_of_copy}
+use Rattle.std.proofs.Common.{◌≡◌, ⊎_elim, ℕ, zero, suc, ◌+◌, ◌-◌, ◌&&◌, not, nat_le, nat_lt}
+use Rattle.std.proofs.Common.{if◌then◌else◌, List, ◌∷◌, Bool, true, false, refl, ap, ◌∙◌, subst}
+use Rattle.std.proofs.Common.{Some}
+use Rattle.blocking_core.specs.Copying.{next_after}
 use Rattle.blocking_core.specs.declared.copy.CopyAction.{CopyAction}
 use Rattle.blocking_core.specs.declared.copy.CopyAction.TheVariants as action
 use Rattle.blocking_core.specs.declared.copy.CopyEnd.TheVariants as end
@@ -10,8 +10,7 @@ use Rattle.blocking_world_copiers.specs.Copiers.{CopierState, answer_of, between
 use Rattle.blocking_world_copiers.specs.Ties.{asks_writes, ends_flush, asks_flushes, IsJustFlushed}
 use Rattle.blocking_world_copiers.specs.Ties.{InOrder, CopierOf}
 use Rattle.blocking_world_copiers.specs.declared.copier.CopierNext.TheVariants as next
-use Rattle.blocking_world_copiers.proofs.Words.{Act, Made, Asked, Got, Filled, Waits, Replied}
-use Rattle.blocking_world_copiers.proofs.Words.{HolderDropped, call, under_way, HandleCall, Read}
+use Rattle.blocking_world_copiers.proofs.Words.{Act, Asked, Replied, call, under_way, HandleCall}
 use Rattle.blocking_world_copiers.proofs.Words.{Write, Flush, Reply, Count, Okay, Failed}
 use Rattle.blocking_world_copiers.proofs.Polls.{StepAs}
 use Rattle.blocking_world_copiers.proofs.Copying.{none_asked}

@@ -1,6 +1,6 @@
 -- In which order a copier asks its writer: it writes, and then flushes once.
-use Rattle.std.proofs.Common.{◌≡◌, ℕ, List, [], ◌∷◌, ◌&&◌, not, Bool, true, false, refl, sym, ap}
-use Rattle.std.proofs.Common.{◌∙◌, subst, Option, Some, None, arith}
+use Rattle.std.proofs.Common.{◌≡◌, ℕ, List, [], ◌∷◌, ◌&&◌, not, Bool, true, false, refl, ap, ◌∙◌}
+use Rattle.std.proofs.Common.{subst, Option, Some, None, arith}
 use Rattle.blocking_world_laws.specs.Copies.{is_write}
 use Rattle.blocking_world_copiers.specs.Ties.{asks_writes, ends_flush, asks_flushes}
 use Rattle.blocking_world_copiers.proofs.Words.{Act, Asked, Replied, call, HandleCall, Write, Flush}

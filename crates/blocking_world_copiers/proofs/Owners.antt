@@ -1,44 +1,27 @@
 -- What owners do that are lent to copiers.
-use Rattle.std.proofs.Common.{◌≡◌, ◌⊎◌, ⊎_elim, inl, inr, ℕ, zero, suc, ◌+◌, ◌<◌, ◌≤◌, ◌==◌, ◌&&◌}
-use Rattle.std.proofs.Common.{◌||◌, not, cond, if◌then◌else◌, List, [], ◌∷◌, ◌++◌, length, map, min}
-use Rattle.std.proofs.Common.{◌^◌, ◌-◌, Bool, true, false, refl, sym, ap, ◌∙◌, subst, Option, Some}
-use Rattle.std.proofs.Common.{None, arith}
-use Rattle.std.proofs.lemmas.Bool.Decides.{nat_tests}
-use Rattle.std.proofs.lemmas.Bool.{eqb-true}
-use Rattle.blocking_core.specs.declared.copy.CopyAction.TheVariants as action
-use Rattle.blocking_world_laws.specs.Copies.{acts_since, polls_of, is_by_either}
+use Rattle.std.proofs.Common.{◌≡◌, ⊎_elim, ℕ, ◌<◌, ◌==◌, ◌&&◌, ◌||◌, not, if◌then◌else◌, List, []}
+use Rattle.std.proofs.Common.{◌∷◌, Bool, true, false, refl, sym, ap, ◌∙◌, subst, Some, None, arith}
+use Rattle.blocking_world_laws.specs.Copies.{acts_since, polls_of}
 use Rattle.blocking_world_laws.specs.Lent.{links}
 use Rattle.blocking_world_laws.specs.Seen.{EachMayFollow, events, cut, own, acts_of_owner}
-use Rattle.blocking_world_laws.specs.Seen.{is_nothing, is_of_pool, is_some_worker, is_in_cut}
-use Rattle.blocking_world_laws.specs.Seen.{is_owner}
-use Rattle.blocking_world_laws.specs.Sessions.{under_way, call, is_made, is_owner_gone, is_closed}
-use Rattle.blocking_world_laws.specs.Sessions.{was_asked_inner, may_ask, rests}
-use Rattle.blocking_world_laws.specs.OwnerLaws.{OwnerLaw, OwnerLaws, OwnerActs, OwnerMayAct, Polls}
-use Rattle.blocking_world_laws.specs.OwnerLaws.{IsBegunAnew}
-use Rattle.blocking_world_laws.specs.declared.event.Act.TheVariants.{Linked, NoAction}
+use Rattle.blocking_world_laws.specs.Seen.{is_nothing, is_of_pool, is_owner}
+use Rattle.blocking_world_laws.specs.Sessions.{under_way, is_owner_gone}
+use Rattle.blocking_world_laws.specs.OwnerLaws.{OwnerLaw, OwnerLaws, OwnerActs, Polls}
 use Rattle.blocking_world_laws.specs.declared.event.Moment.{Moment}
-use Rattle.blocking_world_laws.specs.declared.event.Party.TheVariants.{Owner as ByOwner, Pool}
-use Rattle.blocking_world_copiers.specs.Copiers.{CopierState, shown, new_copier, belongs}
-use Rattle.blocking_world_copiers.specs.Copiers.{has_number, heard, copier_at, is_lent, hear_first}
-use Rattle.blocking_world_copiers.specs.Ties.{got_now, filled_now, IsOpen, InOrder, CopierOf}
-use Rattle.blocking_world_copiers.specs.Ties.{CopierBy, CopierAs, AreApart, AllAs}
-use Rattle.blocking_world_copiers.proofs.Words.{Act, Made, Asked, Got, Filled, Waits, Replied}
-use Rattle.blocking_world_copiers.proofs.Words.{HolderDropped, OwnerAction, Begin, CloseOwn}
-use Rattle.blocking_world_copiers.proofs.Words.{WakeJob, Drain, Fill, Receive, PollSlot, PollPlace}
-use Rattle.blocking_world_copiers.proofs.Words.{Say, Rest, next_of_owner_by, next_of_owner, Event}
-use Rattle.blocking_world_copiers.proofs.Words.{HandleCall, Read, Write, Flush, Met, seen_drain}
-use Rattle.blocking_world_copiers.proofs.Words.{seen_receive, seen_fill, drain, receive, fill}
-use Rattle.blocking_world_copiers.proofs.Words.{poll_slot, poll_place, inside, room_in, last_job}
-use Rattle.blocking_world_copiers.proofs.Words.{has_closed, has_finished, has_result, number, noted}
-use Rattle.blocking_world_copiers.proofs.Words.{IsWakeOf}
-use Rattle.blocking_world_copiers.proofs.Polls.{StepAs, poll_as, step_as, own_not, own_more}
-use Rattle.blocking_world_copiers.proofs.Copying.{reader_acts, writer_acts, asks_reader, asks_write}
-use Rattle.blocking_world_copiers.proofs.Copying.{asks_flush}
+use Rattle.blocking_world_laws.specs.declared.event.Party.TheVariants.{Owner as ByOwner}
+use Rattle.blocking_world_copiers.specs.Copiers.{CopierState, shown, belongs, heard, is_lent}
+use Rattle.blocking_world_copiers.specs.Copiers.{hear_first}
+use Rattle.blocking_world_copiers.specs.Ties.{got_now, filled_now, InOrder, CopierOf, CopierAs}
+use Rattle.blocking_world_copiers.specs.Ties.{AreApart, AllAs}
+use Rattle.blocking_world_copiers.proofs.Words.{Act, Made, Asked, Waits, Replied, HolderDropped}
+use Rattle.blocking_world_copiers.proofs.Words.{Rest, next_of_owner_by, Event, HandleCall}
+use Rattle.blocking_world_copiers.proofs.Polls.{StepAs, own_after, own_law}
+use Rattle.blocking_world_copiers.proofs.Copying.{reader_acts, writer_acts}
 use Rattle.blocking_world_copiers.proofs.OrderSteps.{reader_order, writer_order}
 use Rattle.blocking_world_copiers.proofs.Seen.{is_own, own_other, own_this, since_other, since_this}
-use Rattle.blocking_world_copiers.proofs.Seen.{polls_this, its_own, not_own, own_is, links_same}
-use Rattle.blocking_world_copiers.proofs.Stays.{MakesNext, IsOut, aside, all_aside, of_same}
-use Rattle.blocking_world_copiers.proofs.Stays.{makes_none, links_grow, flip}
+use Rattle.blocking_world_copiers.proofs.Seen.{polls_this, its_own, not_own}
+use Rattle.blocking_world_copiers.proofs.Stays.{MakesNext, aside, all_aside, of_same, makes_none}
+use Rattle.blocking_world_copiers.proofs.Stays.{links_grow, flip, belongs_is, lent_once}
 
 -- ---- an owner that rests
 
@@ -72,14 +55,10 @@ goes_on cut act was does none =
 pub idle_as : (cut : List Event) → EachMayFollow OwnerLaw cut → under_way (own cut) ≡ None
     → IsIdle (own cut)
 idle_as [] laws = λ none. tt
-idle_as (now ∷ cut) laws = by (is_some_worker now.party) refl laws.0.acts (idle_as cut laws.1)
-  where
-    by : (b : Bool) → is_some_worker now.party ≡ b → OwnerMayAct b cut now
-        → (under_way (own cut) ≡ None → IsIdle (own cut)) → under_way (own (now ∷ cut)) ≡ None
-        → IsIdle (own (now ∷ cut))
-    by true is acts was = subst (λ l. under_way l ≡ None → IsIdle l) (sym (own_not now cut is)) was
-    by false is acts was = subst (λ l. under_way l ≡ None → IsIdle l) (sym (own_more now cut is))
-        (goes_on cut now.act was acts)
+idle_as (now ∷ cut) laws =
+    let was = idle_as cut laws.1 in
+    own_after (λ l. under_way l ≡ None → IsIdle l) now cut (λ is. was)
+    (λ is. goes_on cut now.act was (own_law now cut laws is))
 
 idle_none : (acts : List Act) → IsIdle acts → is_owner_gone acts ≡ false
     → (got_now acts ≡ []) × (filled_now acts ≡ [])
@@ -101,19 +80,17 @@ pub heard_same : (c : CopierState) (act : Act) → ((heard c act).number ≡ c.n
     × ((heard c act).reader ≡ c.reader) × ((heard c act).writer ≡ c.writer)
 heard_same c act = grind arith
 
+-- the polls of a copier by its number and its owners
+abbrev polls_by : ℕ → ℕ → ℕ → List Moment → List Act
+polls_by k h g past = polls_of (record { number = k; reader = h; writer = g; piece = 0 }) past
+
 -- what is tied of a copier stays with its number and its owners
 renamed : (c d : CopierState) (past : List Moment) → d.number ≡ c.number → d.reader ≡ c.reader
     → d.writer ≡ c.writer → c.number < links past → (c.reader == c.writer) ≡ false
     → InOrder d.core.next (acts_since c.number c.writer past)
     → CopierOf d (acts_of_owner c.reader (events past)) (acts_of_owner c.writer (events past))
     (acts_since c.number c.reader past) (acts_since c.number c.writer past)
-    (polls_of (record {
-      number = c.number;
-      reader = c.reader;
-      writer = c.writer;
-      piece = d.core.piece;
-    }) past)
-    → CopierAs d past
+    (polls_by c.number c.reader c.writer past) → CopierAs d past
 renamed c d past n r w known differ order by = record {
   known = subst (λ k. k < links past) (sym n) known;
   differ = ap (λ h. h == d.writer) r ∙ ap (λ h. c.reader == h) w ∙ differ;
@@ -123,29 +100,10 @@ renamed c d past n r w known differ order by = record {
       (ap (λ h. acts_of_owner h (events past)) w)
       (ap (λ k. acts_since k d.reader past) n ∙ ap (λ h. acts_since c.number h past) r)
       (ap (λ k. acts_since k d.writer past) n ∙ ap (λ h. acts_since c.number h past) w)
-      (ap (λ k. polls_of (record {
-        number = k;
-        reader = d.reader;
-        writer = d.writer;
-        piece = d.core.piece;
-      }) past) n
-      ∙ ap (λ h. polls_of (record {
-        number = c.number;
-        reader = h;
-        writer = d.writer;
-        piece = d.core.piece;
-      }) past) r
-      ∙ ap (λ h. polls_of (record {
-        number = c.number;
-        reader = c.reader;
-        writer = h;
-        piece = d.core.piece;
-      }) past) w) by;
+      (ap (λ k. polls_by k d.reader d.writer past) n
+      ∙ ap (λ h. polls_by c.number h d.writer past) r
+      ∙ ap (λ h. polls_by c.number c.reader h past) w) by;
 }
-
--- its size stays
-heard_size : (c : CopierState) (act : Act) → (heard c act).core.piece ≡ c.core.piece
-heard_size c act = grind arith
 
 either : (x a b : Bool) → x ≡ false → (a || b) ≡ true → (not x && (a || b)) ≡ true
 either x a b something is = grind arith
@@ -170,10 +128,9 @@ module _ (now : Moment) (past : List Moment) (h : ℕ) (by_h : now.event.party �
       omega (arith, grow, known)
 
   -- its reader's act
-  hears_reader : (c : CopierState) → CopierAs c past → (c.reader == h) ≡ true → belongs h c ≡ true
+  hears_reader : (c : CopierState) → CopierAs c past → c.reader ≡ h → belongs h c ≡ true
       → CopierAs (heard c now.event.act) (now ∷ past)
-  hears_reader c t reads its =
-      let same : c.reader ≡ h = eqb-true c.reader h reads in
+  hears_reader c t same its =
       let made = makes_none c.number now.step now.event.act (links past) t.known next in
       let mine : is_own c.reader now.event ≡ true = subst (λ g. is_own g now.event ≡ true)
       (sym same) (its_own h now.event by_h something own_act) in
@@ -184,32 +141,22 @@ module _ (now : Moment) (past : List Moment) (h : ℕ) (by_h : now.event.party �
       (subst (InOrder (heard c now.event.act).core.next)
       (sym (since_other c.number c.writer now past made other))
       (reader_order c.number c.reader c.writer c.core.piece c.core.copied c.core.is_short c.piece
-      (acts_of_owner c.reader (events past)) (acts_of_owner c.writer (events past))
-      (acts_since c.number c.reader past) (acts_since c.number c.writer past)
-      (polls_of (shown c) past) c.core.next now.event.act asked t.by
+      _ _ _ _ _ c.core.next now.event.act asked t.by
       (ap (λ g. under_way (acts_of_owner g (events past))) same ∙ runs) t.order))
       (of_same (heard c now.event.act) (own_this c.reader now.event (events past) mine)
       (own_other c.writer now.event (events past) other)
       (since_this c.number c.reader now past made mine)
       (since_other c.number c.writer now past made other)
-      (ap (λ n. polls_of (record {
-        number = c.number;
-        reader = c.reader;
-        writer = c.writer;
-        piece = n;
-      }) (now ∷ past)) (heard_size c now.event.act) ∙ polls_more c t its)
+      (polls_more c t its)
       (reader_acts c.number c.reader c.writer c.core.piece c.core.copied c.core.is_short c.piece
-      (acts_of_owner c.reader (events past)) (acts_of_owner c.writer (events past))
-      (acts_since c.number c.reader past) (acts_since c.number c.writer past)
-      (polls_of (shown c) past) c.core.next now.event.act asked t.by
+      _ _ _ _ _ c.core.next now.event.act asked t.by
       (ap (λ g. under_way (acts_of_owner g (events past))) same ∙ runs) (subst
       (λ g. StepAs asked (acts_of_owner g (events past)) now.event.act) (sym same) step)))
 
   -- its writer's act
   hears_writer : (c : CopierState) → CopierAs c past → (c.reader == h) ≡ false
-      → (c.writer == h) ≡ true → belongs h c ≡ true → CopierAs (heard c now.event.act) (now ∷ past)
-  hears_writer c t reads writes its =
-      let same : c.writer ≡ h = eqb-true c.writer h writes in
+      → c.writer ≡ h → belongs h c ≡ true → CopierAs (heard c now.event.act) (now ∷ past)
+  hears_writer c t reads same its =
       let made = makes_none c.number now.step now.event.act (links past) t.known next in
       let mine : is_own c.writer now.event ≡ true = subst (λ g. is_own g now.event ≡ true)
       (sym same) (its_own h now.event by_h something own_act) in
@@ -220,52 +167,23 @@ module _ (now : Moment) (past : List Moment) (h : ℕ) (by_h : now.event.party �
       (subst (InOrder (heard c now.event.act).core.next)
       (sym (since_this c.number c.writer now past made mine))
       (writer_order c.number c.reader c.writer c.core.piece c.core.copied c.core.is_short c.piece
-      (acts_of_owner c.reader (events past)) (acts_of_owner c.writer (events past))
-      (acts_since c.number c.reader past) (acts_since c.number c.writer past)
-      (polls_of (shown c) past) c.core.next now.event.act asked t.by
+      _ _ _ _ _ c.core.next now.event.act asked t.by
       (ap (λ g. under_way (acts_of_owner g (events past))) same ∙ runs) (subst (λ g.
       StepAs asked (acts_of_owner g (events past)) now.event.act) (sym same) step) t.order))
       (of_same (heard c now.event.act) (own_other c.reader now.event (events past) other)
       (own_this c.writer now.event (events past) mine)
       (since_other c.number c.reader now past made other)
       (since_this c.number c.writer now past made mine)
-      (ap (λ n. polls_of (record {
-        number = c.number;
-        reader = c.reader;
-        writer = c.writer;
-        piece = n;
-      }) (now ∷ past)) (heard_size c now.event.act) ∙ polls_more c t its)
+      (polls_more c t its)
       (writer_acts c.number c.reader c.writer c.core.piece c.core.copied c.core.is_short c.piece
-      (acts_of_owner c.reader (events past)) (acts_of_owner c.writer (events past))
-      (acts_since c.number c.reader past) (acts_since c.number c.writer past)
-      (polls_of (shown c) past) c.core.next now.event.act asked t.by
+      _ _ _ _ _ c.core.next now.event.act asked t.by
       (ap (λ g. under_way (acts_of_owner g (events past))) same ∙ runs) (subst
       (λ g. StepAs asked (acts_of_owner g (events past)) now.event.act) (sym same) step)))
 
   hears : (c : CopierState) → CopierAs c past → belongs h c ≡ true
       → CopierAs (heard c now.event.act) (now ∷ past)
-  hears c t its = by (c.reader == h) (c.writer == h) refl refl its
-    where
-      by : (x y : Bool) → (c.reader == h) ≡ x → (c.writer == h) ≡ y
-          → (c.reader == h || c.writer == h) ≡ true → CopierAs (heard c now.event.act) (now ∷ past)
-      by true y reads writes its = hears_reader c t reads its
-      by false true reads writes its = hears_writer c t reads writes its
-      by false false reads writes its = let none =
-          sym (ap (λ b. b || (c.writer == h)) reads ∙ writes) ∙ its in absurd cc
-
-  -- its owner is lent to no other
-  alone : (c : CopierState) (more : List CopierState) → belongs h c ≡ true
-      → is_lent c.reader more ≡ false → is_lent c.writer more ≡ false → is_lent h more ≡ false
-  alone c more its reader writer = by (c.reader == h) (c.writer == h) refl refl its
-    where
-      by : (x y : Bool) → (c.reader == h) ≡ x → (c.writer == h) ≡ y
-          → (c.reader == h || c.writer == h) ≡ true → is_lent h more ≡ false
-      by true y reads writes its =
-          subst (λ g. is_lent g more ≡ false) (eqb-true c.reader h reads) reader
-      by false true reads writes its =
-          subst (λ g. is_lent g more ≡ false) (eqb-true c.writer h writes) writer
-      by false false reads writes its = let none =
-          sym (ap (λ b. b || (c.writer == h)) reads ∙ writes) ∙ its in absurd cc
+  hears c t its = ⊎_elim (λ reads. hears_reader c t reads its)
+      (λ writes. hears_writer c t writes.0 writes.1 its) (belongs_is h c its)
 
   same_owner : (g : ℕ) → now.event.party ≡ ByOwner g → g ≡ h
   same_owner g is = let both = sym is ∙ by_h in cc
@@ -281,7 +199,7 @@ module _ (now : Moment) (past : List Moment) (h : ℕ) (by_h : now.event.party �
       by true its heard_more = (
         hears c t.0 its,
         all_aside more now past next (λ g is some. subst (λ k. is_lent k more ≡ false)
-            (sym (same_owner g is)) (alone c more its apart.1 apart.2)) t.1,
+            (sym (same_owner g is)) (lent_once h c more its apart.1 apart.2)) t.1,
       )
       by false not_its heard_more = (
         aside c now past next (λ g is some.

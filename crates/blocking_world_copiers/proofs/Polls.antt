@@ -5,23 +5,23 @@ use Rattle.std.proofs.Common.{◌++◌, length, take, not, cond, Bool, true, fal
 use Rattle.std.proofs.Common.{subst, Option, Some, None, arith}
 use Rattle.std.proofs.lemmas.Bool.Decides.{nat_tests}
 use Rattle.std.proofs.lemmas.List.{length-take}
-use Rattle.blocking_world_copiers.proofs.Words.{Met, Served, Waiting, Closed, State, Kind, Fault}
-use Rattle.blocking_world_copiers.proofs.Words.{Session, last_session, table, after_end, after_back}
-use Rattle.blocking_world_copiers.proofs.Words.{at_back, at_asked, at_accepted, refusal, is_at_end}
-use Rattle.blocking_world_copiers.proofs.Words.{has_begun, state, drain, fill, receive, IsBegunAnew}
-use Rattle.blocking_world_copiers.proofs.Words.{IsWakeOf, has_finished, has_result, last_job}
-use Rattle.blocking_world_copiers.proofs.Words.{number, poll_slot, poll_place, Polls, OwnerActs}
-use Rattle.blocking_world_copiers.proofs.Words.{OwnerMayAct, OwnerLaw, OwnerAction, Begin, CloseOwn}
-use Rattle.blocking_world_copiers.proofs.Words.{WakeJob, Drain, Fill, Receive, PollSlot, PollPlace}
-use Rattle.blocking_world_copiers.proofs.Words.{Say, Rest, owner_next_but_wake, next_of_owner_by}
-use Rattle.blocking_world_copiers.proofs.Words.{next_of_owner, seen_drain, seen_receive, seen_fill}
-use Rattle.blocking_world_copiers.proofs.Words.{data_of, EachMayFollow, Refusal, Woke, inside}
-use Rattle.blocking_world_copiers.proofs.Words.{room_in, has_closed, noted, own, is_some_worker}
-use Rattle.blocking_world_copiers.proofs.Words.{call, rests, may_ask, under_way, is_operation}
-use Rattle.blocking_world_copiers.proofs.Words.{session, is_shut, Act, Made, Asked, OwnerClosed}
-use Rattle.blocking_world_copiers.proofs.Words.{Got, GotItem, GotEnd, Filled, FillShut, Back}
-use Rattle.blocking_world_copiers.proofs.Words.{ResultGot, Replied, Accepted, Refused, JobWoken}
-use Rattle.blocking_world_copiers.proofs.Words.{Waits, HolderDropped, Event, Reply, Okay, Count}
+use Rattle.blocking_world_copiers.proofs.Words.{State, Kind, Fault, Session, last_session, table}
+use Rattle.blocking_world_copiers.proofs.Words.{after_end, after_back, at_back, at_asked}
+use Rattle.blocking_world_copiers.proofs.Words.{at_accepted, refusal, is_at_end, has_begun, state}
+use Rattle.blocking_world_copiers.proofs.Words.{drain, fill, receive, IsBegunAnew, IsWakeOf}
+use Rattle.blocking_world_copiers.proofs.Words.{has_finished, has_result, last_job, number}
+use Rattle.blocking_world_copiers.proofs.Words.{poll_slot, poll_place, Polls, OwnerActs}
+use Rattle.blocking_world_copiers.proofs.Words.{OwnerMayAct, OwnerLaw, OwnerLaws, OwnerAction}
+use Rattle.blocking_world_copiers.proofs.Words.{Begin, CloseOwn, WakeJob, Drain, Fill, Receive}
+use Rattle.blocking_world_copiers.proofs.Words.{PollSlot, PollPlace, Say, Rest, owner_next_but_wake}
+use Rattle.blocking_world_copiers.proofs.Words.{next_of_owner_by, next_of_owner, seen_drain}
+use Rattle.blocking_world_copiers.proofs.Words.{seen_receive, seen_fill, data_of, EachMayFollow}
+use Rattle.blocking_world_copiers.proofs.Words.{Refusal, Woke, inside, room_in, has_closed, noted}
+use Rattle.blocking_world_copiers.proofs.Words.{own, is_some_worker, call, rests, may_ask}
+use Rattle.blocking_world_copiers.proofs.Words.{under_way, is_operation, Act, Made, Asked}
+use Rattle.blocking_world_copiers.proofs.Words.{OwnerClosed, Got, GotItem, GotEnd, Filled, FillShut}
+use Rattle.blocking_world_copiers.proofs.Words.{Back, ResultGot, Replied, Accepted, Refused}
+use Rattle.blocking_world_copiers.proofs.Words.{JobWoken, Waits, HolderDropped, Event, Reply, Count}
 use Rattle.blocking_world_copiers.proofs.Words.{HandleCall, Read, Write, Flush}
 use Rattle.blocking_world_copiers.proofs.Words as words
 use Rattle.blocking_world_copiers.specs.Ties.{got_now, filled_now}
@@ -149,6 +149,21 @@ own_not now cut is = own_by true now cut is
 pub own_more : (now : Event) (cut : List Event) → is_some_worker now.party ≡ false
     → own (now ∷ cut) ≡ now.act ∷ own cut
 own_more now cut is = own_by false now cut is
+
+-- What holds of them after an event: it may be a job's, or one of them.
+pub own_after : (P : List Act → Type 0) (now : Event) (cut : List Event)
+    → (is_some_worker now.party ≡ true → P (own cut))
+    → (is_some_worker now.party ≡ false → P (now.act ∷ own cut)) → P (own (now ∷ cut))
+own_after P now cut job mine = by (is_some_worker now.party) refl
+  where
+    by : (b : Bool) → is_some_worker now.party ≡ b → P (own (now ∷ cut))
+    by true is = subst P (sym (own_not now cut is)) (job is)
+    by false is = subst P (sym (own_more now cut is)) (mine is)
+
+-- Each of them is what the laws let the owner do.
+pub own_law : (now : Event) (cut : List Event) → OwnerLaws (now ∷ cut)
+    → is_some_worker now.party ≡ false → OwnerActs cut now.act
+own_law now cut laws is = subst (λ b. OwnerMayAct b cut now) is laws.0.acts
 
 -- ---- what was done in a poll so far
 
@@ -317,6 +332,17 @@ acts_now cut act does plain =
         woken act does plain = grind arith
     no_waking cut next act does plain = tt
 
+-- Nothing came out of the pipe, and nothing went in, where no number is said next.
+unsaid_got : (cut : List Event) (acts : List Act) (m : ℕ) → ReadAs m acts
+    → ((k : ℕ) → owner_next_but_wake cut acts ≡ Say (Count k) → ⊥) → got_now acts ≡ []
+unsaid_got cut acts m was unsaid =
+    ⊎_elim (λ calm. calm.0) (λ says. absurd (unsaid _ (says.2 cut))) was.got
+
+unsaid_filled : (cut : List Event) (acts : List Act) (bytes : List ℕ) → WriteAs bytes acts
+    → ((k : ℕ) → owner_next_but_wake cut acts ≡ Say (Count k) → ⊥) → filled_now acts ≡ []
+unsaid_filled cut acts bytes was unsaid =
+    ⊎_elim (λ calm. calm.0) (λ says. absurd (unsaid _ (says.4 cut))) was.filled
+
 -- after such an act of a poll
 quietly : (cut : List Event) (act : Act) (asked : HandleCall) → under_way (own cut) ≡ Some asked
     → is_quiet act ≡ true → Polls cut (next_of_owner cut) act → CallAs (Some asked) (own cut)
@@ -326,19 +352,20 @@ quietly cut act (Read m) is quiet does was =
     let now = acts_now cut act does (quiet_plain act quiet) in
     record {
       none_filled = left.filled ∙ was.none_filled;
-      got = ⊎_elim (λ calm. inl (left.got ∙ calm.0, calm_after (Read m) (own cut) tt is act quiet))
-          (λ says. absurd (no_say (owner_next_but_wake cut (own cut)) act now quiet _ (says.2 cut)))
-          was.got;
+      got = inl (
+        left.got ∙ unsaid_got cut (own cut) m was (no_say _ act now quiet),
+        calm_after (Read m) (own cut) tt is act quiet,
+      );
     }
 quietly cut act (Write bytes) is quiet does was =
     let left = left_by (own cut) act quiet in
     let now = acts_now cut act does (quiet_plain act quiet) in
     record {
       none_got = left.got ∙ was.none_got;
-      filled = ⊎_elim
-          (λ calm. inl (left.filled ∙ calm.0, calm_after (Write bytes) (own cut) tt is act quiet))
-          (λ says. absurd (no_say (owner_next_but_wake cut (own cut)) act now quiet says.0
-          (says.4 cut))) was.filled;
+      filled = inl (
+        left.filled ∙ unsaid_filled cut (own cut) bytes was (no_say _ act now quiet),
+        calm_after (Write bytes) (own cut) tt is act quiet,
+      );
     }
 quietly cut act Flush is quiet does was =
     let left = left_by (own cut) act quiet in
@@ -359,12 +386,27 @@ begins Flush acts = record { none_got = refl; none_filled = refl }
 begins asked acts = tt
 
 -- a number isn't said where the pipe is asked
-no_drain : (next : OwnerAction) (n k : ℕ) → next ≡ Say (Count k) → next ≡ Drain n → ⊥
-no_drain next n k says drains = let both = sym says ∙ drains in cc
+no_drain : {next : OwnerAction} {n k : ℕ} → next ≡ Say (Count k) → next ≡ Drain n → ⊥
+no_drain says drains = let both = sym says ∙ drains in cc
 
-no_fill : (next : OwnerAction) (bytes : List ℕ) (k : ℕ) → next ≡ Say (Count k) → next ≡ Fill bytes
+no_fill : {next : OwnerAction} {bytes : List ℕ} {k : ℕ} → next ≡ Say (Count k) → next ≡ Fill bytes
     → ⊥
-no_fill next bytes k says fills = let both = sym says ∙ fills in cc
+no_fill says fills = let both = sym says ∙ fills in cc
+
+-- What the pipe is asked is for the read that is under way, or for the write.
+drains : (cut : List Event) (acts : List Act) (n : ℕ) (asked : HandleCall)
+    → under_way acts ≡ Some asked → owner_next_but_wake cut acts ≡ Drain n → Read n ≡ asked
+drains cut acts n asked is next =
+    let for = subst (λ a. IsFor a (call acts)) next (is_for cut acts) in
+    let one : Some (Read n) ≡ Some asked = sym for.0 ∙ under_way_call acts asked is in
+    cc
+
+fills_is : (cut : List Event) (acts : List Act) (bytes : List ℕ) (asked : HandleCall)
+    → under_way acts ≡ Some asked → owner_next_but_wake cut acts ≡ Fill bytes → Write bytes ≡ asked
+fills_is cut acts bytes asked is next =
+    let for = subst (λ a. IsFor a (call acts)) next (is_for cut acts) in
+    let one : Some (Write bytes) ≡ Some asked = sym for.0 ∙ under_way_call acts asked is in
+    cc
 
 -- bytes come out of the pipe
 module _ (acts : List Act) (bytes : List ℕ) (told : Option ℕ) (some : 0 < length bytes) where
@@ -383,24 +425,10 @@ module _ (acts : List Act) (bytes : List ℕ) (told : Option ℕ) (some : 0 < le
       → owner_next_but_wake cut acts ≡ Drain n → length bytes ≤ n → CallAs (Some asked) acts
       → CallAs (Some asked) (Got bytes told ∷ acts)
   gets cut n asked is next fits was =
-      by asked (of_some asked (sym for.0 ∙ under_way_call acts asked is)) was
-    where
-      for : (call acts ≡ Some (Read n)) × (0 < n)
-      for = subst (λ a. IsFor a (call acts)) next (is_for cut acts)
-
-      of_some : (asked : HandleCall) → Some (Read n) ≡ Some asked → Read n ≡ asked
-      of_some asked one = cc
-
-      by : (asked : HandleCall) → Read n ≡ asked → CallAs (Some asked) acts
-          → CallAs (Some asked) (Got bytes told ∷ acts)
-      by (Read m) one was =
-          let same : n ≡ m = cc in
-          gets_read m (subst (λ k. length bytes ≤ k) same fits)
-          (⊎_elim (λ calm. calm.0) (λ says. absurd (no_drain (owner_next_but_wake cut acts) n _
-          (says.2 cut) next)) was.got) was.none_filled
-      by (Write other) one was = absurd cc
-      by Flush one was = absurd cc
-      by other one was = tt
+      subst (λ c. CallAs (Some c) acts → CallAs (Some c) (Got bytes told ∷ acts))
+      (drains cut acts n asked is next)
+      (λ reads. gets_read n fits (unsaid_got cut acts n reads (λ k says. no_drain says next))
+      reads.none_filled) was
 
 -- and go in
 module _ (acts : List Act) (n : ℕ) (told : Option ℕ) (some : 0 < n) where
@@ -415,25 +443,11 @@ module _ (acts : List Act) (n : ℕ) (told : Option ℕ) (some : 0 < n) where
       → owner_next_but_wake cut acts ≡ Fill bytes → n ≤ length bytes → CallAs (Some asked) acts
       → CallAs (Some asked) (Filled n told ∷ acts)
   fills cut bytes asked is next fits was =
-      by asked (of_some asked (sym for.0 ∙ under_way_call acts asked is)) was
-    where
-      for : (call acts ≡ Some (Write bytes)) × (0 < length bytes)
-      for = subst (λ a. IsFor a (call acts)) next (is_for cut acts)
-
-      of_some : (asked : HandleCall) → Some (Write bytes) ≡ Some asked → Write bytes ≡ asked
-      of_some asked one = cc
-
-      by : (asked : HandleCall) → Write bytes ≡ asked → CallAs (Some asked) acts
-          → CallAs (Some asked) (Filled n told ∷ acts)
-      by (Write other) one was =
-          let same : bytes ≡ other = cc in
-          fills_write other (subst (λ l. n ≤ length l) same fits)
-          (for.0 ∙ ap (λ l. Some (Write l)) same) was.none_got
-          (⊎_elim (λ calm. calm.0) (λ says. absurd
-          (no_fill (owner_next_but_wake cut acts) bytes _ (says.4 cut) next)) was.filled)
-      by (Read m) one was = absurd cc
-      by Flush one was = absurd cc
-      by other one was = tt
+      let same = fills_is cut acts bytes asked is next in
+      subst (λ c. CallAs (Some c) acts → CallAs (Some c) (Filled n told ∷ acts)) same
+      (λ writes. fills_write bytes fits
+      (under_way_call acts (Write bytes) (is ∙ ap (λ c. Some c) (sym same))) writes.none_got
+      (unsaid_filled cut acts bytes writes (λ k says. no_fill says next))) was
 
 -- a wake of a job comes between
 woken : (s : ℕ) (woke : Woke) (acts : List Act) (asked : Option HandleCall) → CallAs asked acts
@@ -496,12 +510,10 @@ poll_on cut act was does =
 -- By its laws each owner's poll is so.
 pub poll_as : (cut : List Event) → EachMayFollow OwnerLaw cut → PollAs (own cut)
 poll_as [] laws = tt
-poll_as (now ∷ cut) laws = by (is_some_worker now.party) refl laws.0.acts (poll_as cut laws.1)
-  where
-    by : (b : Bool) → is_some_worker now.party ≡ b → OwnerMayAct b cut now → PollAs (own cut)
-        → PollAs (own (now ∷ cut))
-    by true is acts was = subst PollAs (sym (own_not now cut is)) was
-    by false is acts was = subst PollAs (sym (own_more now cut is)) (poll_on cut now.act was acts)
+poll_as (now ∷ cut) laws =
+    let was = poll_as cut laws.1 in
+    own_after PollAs now cut (λ is. was)
+    (λ is. poll_on cut now.act was (own_law now cut laws is))
 
 -- ---- what an act of a poll finds
 
@@ -604,53 +616,44 @@ not_read : (cut : List Event) (bytes : List ℕ) (told : Option ℕ) (asked : Ha
     → under_way (own cut) ≡ Some asked → OwnerActs cut (Got bytes told) → is_read asked ≡ false → ⊥
 not_read cut bytes told asked is does other =
     let now = acts_now cut (Got bytes told) does tt in
-    let mine = subst (λ a. IsFor a (call (own cut))) now.1 (is_for cut (own cut)) in
-    let one : Some (Read now.0) ≡ Some asked = sym mine.0 ∙ under_way_call (own cut) asked is in
-    let same : Read now.0 ≡ asked = cc in
-    let both = sym other ∙ ap is_read (sym same) in
+    let both = sym other ∙ ap is_read (sym (drains cut (own cut) now.0 asked is now.1)) in
     absurd cc
+
+step_by : (cut : List Event) (act : Act) (asked : HandleCall) → under_way (own cut) ≡ Some asked
+    → CallAs (Some asked) (own cut) → OwnerActs cut act → StepAs asked (own cut) act
+step_by cut (Asked other) asked is was does = no_ask (own cut) asked other is does
+step_by cut (Made h capacity) asked is was does = no_owner cut asked is does
+step_by cut HolderDropped asked is was does = no_poll (own cut) asked is does
+step_by cut (Got bytes told) (Read m) is was does =
+    let now = acts_now cut (Got bytes told) does tt in
+    unsaid_got cut (own cut) m was (λ k says. no_drain says now.1)
+step_by cut Waits (Read m) is was does =
+    unsaid_got cut (own cut) m was (λ k. acts_now cut Waits does tt (Count k))
+step_by cut (Replied reply) (Read m) is was does =
+    read_replied m (own cut) (owner_next_but_wake cut (own cut)) reply was (λ calm. calm cut)
+    (λ n says. says cut) (acts_now cut (Replied reply) does tt)
+step_by cut (Filled n told) (Write bytes) is was does =
+    let now = acts_now cut (Filled n told) does tt in
+    let one = fills_is cut (own cut) now.0 (Write bytes) is now.1 in
+    let same : now.0 ≡ bytes = cc in (
+      unsaid_filled cut (own cut) bytes was (λ k says. no_fill says now.1),
+      subst (λ l. n ≤ length l) same now.3,
+    )
+step_by cut Waits (Write bytes) is was does =
+    unsaid_filled cut (own cut) bytes was (λ k. acts_now cut Waits does tt (Count k))
+step_by cut (Replied reply) (Write bytes) is was does =
+    write_replied bytes (own cut) (owner_next_but_wake cut (own cut)) reply was (λ calm. calm cut)
+    (λ n says. says cut) (acts_now cut (Replied reply) does tt)
+step_by cut (Filled n told) Flush is was does =
+    let now = acts_now cut (Filled n told) does tt in
+    let one = fills_is cut (own cut) now.0 Flush is now.1 in
+    absurd cc
+step_by cut (Got bytes told) (Write other) is was does =
+    not_read cut bytes told (Write other) is does refl
+step_by cut (Got bytes told) Flush is was does = not_read cut bytes told Flush is does refl
+step_by cut act asked is was does = tt
 
 pub step_as : (cut : List Event) (act : Act) (asked : HandleCall) → under_way (own cut) ≡ Some asked
     → PollAs (own cut) → OwnerActs cut act → StepAs asked (own cut) act
-step_as cut (Asked other) asked is was does = no_ask (own cut) asked other is does
-step_as cut (Made h capacity) asked is was does = no_owner cut asked is does
-step_as cut HolderDropped asked is was does = no_poll (own cut) asked is does
-step_as cut (Got bytes told) (Read m) is was does =
-    let now = acts_now cut (Got bytes told) does tt in
-    ⊎_elim (λ calm. calm.0)
-    (λ says. absurd (no_drain (owner_next_but_wake cut (own cut)) now.0 _ (says.2 cut) now.1))
-    (subst (λ a. CallAs a (own cut)) is was).got
-step_as cut Waits (Read m) is was does =
-    ⊎_elim (λ calm. calm.0) (λ says. absurd (acts_now cut Waits does tt (Count _) (says.2 cut)))
-    (subst (λ a. CallAs a (own cut)) is was).got
-step_as cut (Replied reply) (Read m) is was does =
-    read_replied m (own cut) (owner_next_but_wake cut (own cut))
-    reply (subst (λ a. CallAs a (own cut)) is was) (λ calm. calm cut) (λ n says. says cut)
-    (acts_now cut (Replied reply) does tt)
-step_as cut (Filled n told) (Write bytes) is was does =
-    let now = acts_now cut (Filled n told) does tt in
-    let mine = subst (λ a. IsFor a (call (own cut))) now.1 (is_for cut (own cut)) in
-    let one : Some (Write now.0) ≡ Some (Write bytes) =
-    sym mine.0 ∙ under_way_call (own cut) (Write bytes) is in
-    let same : now.0 ≡ bytes = cc in (
-      ⊎_elim (λ calm. calm.0)
-          (λ says. absurd (no_fill (owner_next_but_wake cut (own cut)) now.0 _ (says.4 cut) now.1))
-          (subst (λ a. CallAs a (own cut)) is was).filled,
-      subst (λ l. n ≤ length l) same now.3,
-    )
-step_as cut Waits (Write bytes) is was does =
-    ⊎_elim (λ calm. calm.0) (λ says. absurd (acts_now cut Waits does tt (Count _) (says.4 cut)))
-    (subst (λ a. CallAs a (own cut)) is was).filled
-step_as cut (Replied reply) (Write bytes) is was does =
-    write_replied bytes (own cut) (owner_next_but_wake cut (own cut))
-    reply (subst (λ a. CallAs a (own cut)) is was) (λ calm. calm cut) (λ n says. says cut)
-    (acts_now cut (Replied reply) does tt)
-step_as cut (Filled n told) Flush is was does =
-    let now = acts_now cut (Filled n told) does tt in
-    let mine = subst (λ a. IsFor a (call (own cut))) now.1 (is_for cut (own cut)) in
-    let one : Some (Write now.0) ≡ Some Flush = sym mine.0 ∙ under_way_call (own cut) Flush is in
-    absurd cc
-step_as cut (Got bytes told) (Write other) is was does =
-    not_read cut bytes told (Write other) is does refl
-step_as cut (Got bytes told) Flush is was does = not_read cut bytes told Flush is does refl
-step_as cut act asked is was does = tt
+step_as cut act asked is was does =
+    step_by cut act asked is (subst (λ a. CallAs a (own cut)) is was) does

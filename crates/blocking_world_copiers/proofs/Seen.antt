@@ -1,15 +1,12 @@
 -- What an event leaves of the acts that a copier is read from.
-use Rattle.std.proofs.Common.{◌≡◌, ◌⊎◌, ⊎_elim, inl, inr, ℕ, ◌+◌, ◌<◌, ◌==◌, ◌&&◌, ◌||◌, not, List}
-use Rattle.std.proofs.Common.{[], ◌∷◌, length, map, filter, cond, Bool, true, false, refl, sym, ap}
-use Rattle.std.proofs.Common.{◌∙◌, subst, Option, Some, None, arith}
+use Rattle.std.proofs.Common.{◌≡◌, ℕ, ◌+◌, ◌==◌, ◌&&◌, ◌||◌, not, List, [], ◌∷◌, map, filter, cond}
+use Rattle.std.proofs.Common.{Bool, true, false, refl, ap, ◌∙◌, arith}
 use Rattle.std.proofs.lemmas.Bool.{eq-eqb}
-use Rattle.std.proofs.lemmas.Bool.Decides.{nat_tests}
 use Rattle.blocking_world_laws.specs.Copies.{makes_copier, since, acts_since, is_by_either}
 use Rattle.blocking_world_laws.specs.Copies.{polls_of}
 use Rattle.blocking_world_laws.specs.Lent.{Copier, links, is_linking}
-use Rattle.blocking_world_laws.specs.Seen.{events, cut, own, acts_of_owner, is_owner, is_nothing}
-use Rattle.blocking_world_laws.specs.Seen.{is_of_pool, is_in_cut, is_some_worker, is_this}
-use Rattle.blocking_world_laws.specs.declared.event.Act.{Act}
+use Rattle.blocking_world_laws.specs.Seen.{events, cut, own, is_owner, is_nothing, is_of_pool}
+use Rattle.blocking_world_laws.specs.Seen.{is_in_cut, is_some_worker, is_this}
 use Rattle.blocking_world_laws.specs.declared.event.Event.{Event}
 use Rattle.blocking_world_laws.specs.declared.event.Moment.{Moment}
 use Rattle.blocking_world_laws.specs.declared.event.Party.{Party}

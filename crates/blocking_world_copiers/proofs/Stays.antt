@@ -1,17 +1,15 @@
 -- What each event leaves of the copiers.
-use Rattle.std.proofs.Common.{◌≡◌, ◌⊎◌, ⊎_elim, inl, inr, ℕ, ◌+◌, ◌<◌, ◌≤◌, ◌==◌, ◌&&◌, ◌||◌, not}
-use Rattle.std.proofs.Common.{if◌then◌else◌, List, [], ◌∷◌, length, map, Bool, true, false, refl}
-use Rattle.std.proofs.Common.{sym, ap, ◌∙◌, subst, Option, Some, None, is_some, option_map, arith}
+use Rattle.std.proofs.Common.{◌≡◌, ◌⊎◌, ⊎_elim, inl, inr, ℕ, ◌<◌, ◌≤◌, ◌==◌, ◌&&◌, ◌||◌, not}
+use Rattle.std.proofs.Common.{if◌then◌else◌, List, [], ◌∷◌, map, Bool, true, false, refl, sym, ap}
+use Rattle.std.proofs.Common.{◌∙◌, subst, Some, None, option_map, arith}
 use Rattle.std.proofs.lemmas.Bool.Decides.{nat_tests}
 use Rattle.std.proofs.lemmas.Bool.{eqb-true}
-use Rattle.blocking_world_laws.specs.Copies.{makes_copier, acts_since, is_by_either, polls_of}
-use Rattle.blocking_world_laws.specs.Lent.{Copier, copiers, copiers_by, copier_in, has_owner, links}
-use Rattle.blocking_world_laws.specs.Lent.{is_linking, without_copier}
-use Rattle.blocking_world_laws.specs.Seen.{events, cut, own, acts_of_owner, is_nothing, is_owner}
-use Rattle.blocking_world_laws.specs.Seen.{is_of_pool}
-use Rattle.blocking_world_laws.specs.Sessions.{under_way}
+use Rattle.blocking_world_laws.specs.Copies.{makes_copier, is_by_either}
+use Rattle.blocking_world_laws.specs.Lent.{Copier, copier_in, has_owner, links, is_linking}
+use Rattle.blocking_world_laws.specs.Lent.{without_copier}
+use Rattle.blocking_world_laws.specs.Seen.{events, is_nothing, is_owner}
 use Rattle.blocking_world_laws.specs.declared.event.Act.{Act}
-use Rattle.blocking_world_laws.specs.declared.event.Act.TheVariants.{Linked, NoAction}
+use Rattle.blocking_world_laws.specs.declared.event.Act.TheVariants.{Linked}
 use Rattle.blocking_world_laws.specs.declared.event.Event.{Event}
 use Rattle.blocking_world_laws.specs.declared.event.Moment.{Moment}
 use Rattle.blocking_world_laws.specs.declared.event.Party.{Party}
@@ -22,9 +20,8 @@ use Rattle.blocking_world_laws.specs.declared.event.Party.TheVariants.{Worker, P
 use Rattle.blocking_world_copiers.specs.Copiers.{CopierState, shown, belongs, has_number, heard}
 use Rattle.blocking_world_copiers.specs.Copiers.{copier_at, is_lent, hear_first, without_number}
 use Rattle.blocking_world_copiers.specs.Ties.{InOrder, CopierOf, CopierAs, AreApart, AllAs}
-use Rattle.blocking_world_copiers.proofs.Seen.{is_own, own_other, own_this, since_other, since_this}
-use Rattle.blocking_world_copiers.proofs.Seen.{polls_other, polls_this, neither, links_same}
-use Rattle.blocking_world_copiers.proofs.Seen.{links_more}
+use Rattle.blocking_world_copiers.proofs.Seen.{own_other, since_other, polls_other, neither}
+use Rattle.blocking_world_copiers.proofs.Seen.{links_same, links_more}
 
 -- ---- a copier is over these lists
 
@@ -55,6 +52,23 @@ IsOut c e = (h : ℕ) → e.party ≡ ByOwner h → is_nothing e.act ≡ false �
 
 pub flip : (n m : ℕ) → (n == m) ≡ (m == n)
 flip n m = grind (arith, nat_tests)
+
+-- An owner that belongs to a copier is its reader, or else its writer.
+pub belongs_is : (h : ℕ) (c : CopierState) → belongs h c ≡ true
+    → (c.reader ≡ h) ⊎ (((c.reader == h) ≡ false) × (c.writer ≡ h))
+belongs_is h c its = by (c.reader == h) refl its
+  where
+    by : (b : Bool) → (c.reader == h) ≡ b → (b || c.writer == h) ≡ true
+        → (c.reader ≡ h) ⊎ (((c.reader == h) ≡ false) × (c.writer ≡ h))
+    by true is its = inl (eqb-true c.reader h is)
+    by false is its = inr (is, eqb-true c.writer h its)
+
+-- It is lent to none of those to which neither of these is.
+pub lent_once : (h : ℕ) (c : CopierState) (more : List CopierState) → belongs h c ≡ true
+    → is_lent c.reader more ≡ false → is_lent c.writer more ≡ false → is_lent h more ≡ false
+lent_once h c more its reader writer =
+    ⊎_elim (λ reads. subst (λ g. is_lent g more ≡ false) reads reader)
+    (λ writes. subst (λ g. is_lent g more ≡ false) writes.1 writer) (belongs_is h c its)
 
 out_by : (c : CopierState) (p : Party) (nothing : Bool)
     → ((h : ℕ) → p ≡ ByOwner h → nothing ≡ false → belongs h c ≡ false)

@@ -1,11 +1,10 @@
 -- What is found of a copier, and what comes of a step.
-use Rattle.std.proofs.Common.{◌≡◌, ℕ, ◌<◌, ◌≤◌, List, [], ◌∷◌, length, Bool, true, false, refl, sym}
-use Rattle.std.proofs.Common.{ap, ◌∙◌, subst, arith, Option, Some, None, slice_get, slice_set}
-use Rattle.std.proofs.Common.{slice_index_or, nat_lt, IfSome}
+use Rattle.std.proofs.Common.{◌≡◌, ℕ, ◌<◌, ◌≤◌, List, length, Bool, false, refl, sym, ap, ◌∙◌}
+use Rattle.std.proofs.Common.{subst, arith, None, slice_get, slice_set, slice_index_or, nat_lt}
+use Rattle.std.proofs.Common.{IfSome}
 use Rattle.std.proofs.lemmas.Option.{slice_get_read, slice_get_past}
 use Rattle.std.proofs.lemmas.Bool.Decides.{nat_tests}
 use Rattle.std.specs.List.{position_or_len}
-use Rattle.blocking_world_pool.specs.Moves.{NeverAsked}
 use Rattle.blocking_world_laws.specs.declared.event.Act.{Act}
 use Rattle.blocking_world_laws.specs.declared.event.Act.TheVariants.{NoAction}
 use Rattle.blocking_world_laws.specs.declared.event.Event.{Event}
@@ -14,10 +13,10 @@ use Rattle.blocking_world_laws.specs.declared.step.HandleCall.{HandleCall}
 use Rattle.blocking_world_laws.specs.declared.step.Step.{Step}
 use Rattle.blocking_world_laws.specs.declared.step.Step.TheVariants.{Ask, Own, DropOwner, Link}
 use Rattle.blocking_world_laws.specs.declared.step.Step.TheVariants.{Copy}
-use Rattle.blocking_world_state.specs.Moves.{CopierMoves, Steps}
+use Rattle.blocking_world_state.specs.Moves.{CopierMoves}
 use Rattle.blocking_world_state.proofs.moves.Lookups.{there}
-use Rattle.blocking_world_copiers.specs.Assemblies.{Assembled, AllStay, Tells, Takes, Polls}
-use Rattle.blocking_world_copiers.specs.Assemblies.{IfCopies, CopiesAt, may_copy_in, Does}
+use Rattle.blocking_world_copiers.specs.Assemblies.{Assembled, Takes, IfCopies, CopiesAt}
+use Rattle.blocking_world_copiers.specs.Assemblies.{may_copy_in, Does}
 use Rattle.blocking_world_copiers.specs.Copiers.{CopierState, belongs, has_number, heard, copier_at}
 use Rattle.blocking_world_copiers.specs.Copiers.{hear_first}
 use Rattle.blocking_world_copiers.proofs.Places.{at_most, found_is, hear_is, hear_none}

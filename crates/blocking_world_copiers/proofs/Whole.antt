@@ -1,26 +1,24 @@
 -- Each step keeps assemblies lawful.
-use Rattle.std.proofs.Common.{◌≡◌, ◌⊎◌, ⊎_elim, inl, inr, ℕ, zero, suc, ◌+◌, ◌<◌, ◌≤◌, ◌==◌, ◌&&◌}
-use Rattle.std.proofs.Common.{◌||◌, not, cond, if◌then◌else◌, nat_lt, List, [], ◌∷◌, length, map}
-use Rattle.std.proofs.Common.{filter, min, ◌^◌, ◌-◌, Bool, true, false, refl, sym, ap, ◌∙◌, subst}
-use Rattle.std.proofs.Common.{Option, Some, None, is_some, option_map, slice_get, arith}
+use Rattle.std.proofs.Common.{◌≡◌, inl, ℕ, ◌<◌, ◌==◌, ◌&&◌, ◌||◌, not, cond, if◌then◌else◌, nat_lt}
+use Rattle.std.proofs.Common.{List, [], ◌∷◌, map, filter, Bool, true, false, refl, sym, ap}
+use Rattle.std.proofs.Common.{◌∙◌, subst, Option, Some, None, option_map, slice_get, arith}
 use Rattle.std.proofs.lemmas.Bool.Decides.{nat_tests}
 use Rattle.std.proofs.lemmas.Bool.{eqb-true, eq-eqb}
 use Rattle.blocking_core.specs.declared.copy.CopyAction.{CopyAction}
 use Rattle.blocking_core.specs.declared.copy.CopyAction.TheVariants as action
 use Rattle.blocking_core.specs.declared.copy.CopyEnd.TheVariants as end
 use Rattle.blocking_world_laws.specs.Copies.{CopierAction, AskReader, AskWriter, Tells as TellsEnd}
-use Rattle.blocking_world_laws.specs.Copies.{CopyLaw, IsCopied, StepTells, TellsTruly, is_by_either}
-use Rattle.blocking_world_laws.specs.Copies.{makes_copier, since, all_accepted, all_got, polls_of}
-use Rattle.blocking_world_laws.specs.Copies.{acts_since, next_of_copier}
+use Rattle.blocking_world_laws.specs.Copies.{StepTells, TellsTruly, is_by_either, makes_copier}
+use Rattle.blocking_world_laws.specs.Copies.{since, all_accepted, all_got, acts_since}
+use Rattle.blocking_world_laws.specs.Copies.{next_of_copier}
 use Rattle.blocking_world_laws.specs.Growth.{IsPlanned}
-use Rattle.blocking_world_laws.specs.Legal.{Legal}
 use Rattle.blocking_world_laws.specs.Lent.{Copier, copiers, copiers_by, copier_in, has_owner, links}
 use Rattle.blocking_world_laws.specs.Lent.{is_linking, without_copier}
 use Rattle.blocking_world_laws.specs.Seen.{EachMayFollow, IsBeginning, events, cut, own}
 use Rattle.blocking_world_laws.specs.Seen.{acts_of_owner, is_nothing, is_of_pool, is_some_worker}
-use Rattle.blocking_world_laws.specs.Seen.{is_in_cut, is_owner}
-use Rattle.blocking_world_laws.specs.Sessions.{under_way, is_poll_over, is_made, is_owner_gone}
-use Rattle.blocking_world_laws.specs.Sessions.{is_closed, was_asked_inner, may_ask, rests}
+use Rattle.blocking_world_laws.specs.Seen.{is_in_cut}
+use Rattle.blocking_world_laws.specs.Sessions.{under_way, is_poll_over, is_made, is_closed}
+use Rattle.blocking_world_laws.specs.Sessions.{was_asked_inner, may_ask, rests}
 use Rattle.blocking_world_laws.specs.Sessions.{is_pending_operation}
 use Rattle.blocking_world_laws.specs.OwnerLaws.{OwnerLaw, OwnerLaws, OwnerActs, OwnerMayAct}
 use Rattle.blocking_world_laws.specs.Steps.{StepLaw, Happens, Fits, has_action, named, party}
@@ -31,8 +29,7 @@ use Rattle.blocking_world_laws.specs.declared.event.Act.TheVariants.{Copied as C
 use Rattle.blocking_world_laws.specs.declared.event.Act.TheVariants.{CopyFailed}
 use Rattle.blocking_world_laws.specs.declared.event.Moment.{Moment}
 use Rattle.blocking_world_laws.specs.declared.event.Party.{Party}
-use Rattle.blocking_world_laws.specs.declared.event.Party.TheVariants.{Owner as ByOwner, Pool, Task}
-use Rattle.blocking_world_laws.specs.declared.event.Party.TheVariants.{Worker}
+use Rattle.blocking_world_laws.specs.declared.event.Party.TheVariants.{Owner as ByOwner, Pool}
 use Rattle.blocking_world_laws.specs.declared.step.Step.{Step}
 use Rattle.blocking_world_laws.specs.declared.step.Step.TheVariants.{New, Ask, Own, DropOwner}
 use Rattle.blocking_world_laws.specs.declared.step.Step.TheVariants.{Spawn, OfTask, Arrive, Take}
@@ -40,34 +37,31 @@ use Rattle.blocking_world_laws.specs.declared.step.Step.TheVariants.{Job, Io, En
 use Rattle.blocking_world_laws.specs.declared.step.Step.TheVariants.{SetLimit, SetClientLimit}
 use Rattle.blocking_world_laws.specs.declared.step.Step.TheVariants.{Sweep, Stray, Strike, Link}
 use Rattle.blocking_world_laws.specs.declared.step.Step.TheVariants.{Copy}
-use Rattle.blocking_world_state.specs.Moves.{CopierMoves, Steps, may_ask_in, rests_in}
-use Rattle.blocking_world_state.specs.Parts.{Parts}
+use Rattle.blocking_world_state.specs.Moves.{may_ask_in, rests_in}
 use Rattle.blocking_world_state.specs.Ties.{IsFree, IsLawful as PartsAreLawful}
 use Rattle.blocking_world_state.proofs.laws.Actions.{asks_by as owner_rests}
 use Rattle.blocking_world_state.proofs.laws.Actions.{asked_by as owner_asked}
 use Rattle.blocking_world_state.proofs.laws.Whole.{stays_lawful, step_keeps, copier_lawful}
-use Rattle.blocking_world_copiers.specs.Assemblies.{Assembled, AllStay, Tells, Takes, Polls, Links}
-use Rattle.blocking_world_copiers.specs.Assemblies.{Ends, Copies, IfLent, IfLinks, IfCopies}
-use Rattle.blocking_world_copiers.specs.Assemblies.{CopiesAt, Does, may_lend_in, may_link_in}
-use Rattle.blocking_world_copiers.specs.Assemblies.{may_do_in, may_copy_in}
-use Rattle.blocking_world_copiers.specs.Copiers.{CopierState, shown, new_copier, belongs}
-use Rattle.blocking_world_copiers.specs.Copiers.{has_number, heard, between, next_by, next_of}
-use Rattle.blocking_world_copiers.specs.Copiers.{as_action, copier_at, is_lent, hear_first}
-use Rattle.blocking_world_copiers.specs.Copiers.{without_number}
+use Rattle.blocking_world_copiers.specs.Assemblies.{Assembled, AllStay, Tells, Takes, Polls, Ends}
+use Rattle.blocking_world_copiers.specs.Assemblies.{Copies, IfLent, IfLinks, IfCopies, CopiesAt}
+use Rattle.blocking_world_copiers.specs.Assemblies.{Does, may_lend_in, may_link_in, may_do_in}
+use Rattle.blocking_world_copiers.specs.Assemblies.{may_copy_in}
+use Rattle.blocking_world_copiers.specs.Copiers.{CopierState, shown, new_copier, belongs, heard}
+use Rattle.blocking_world_copiers.specs.Copiers.{between, next_by, next_of, as_action, copier_at}
+use Rattle.blocking_world_copiers.specs.Copiers.{is_lent, hear_first, without_number}
 use Rattle.blocking_world_copiers.specs.Ties.{got_now, filled_now, IsOpen, InOrder, CopierOf}
-use Rattle.blocking_world_copiers.specs.Ties.{CopierBy, CopierAs, AreApart, AllAs, Copied, IsLawful}
+use Rattle.blocking_world_copiers.specs.Ties.{CopierAs, AreApart, AllAs, Copied, IsLawful}
 use Rattle.blocking_world_copiers.specs.declared.copier.CopierNext.{CopierNext}
 use Rattle.blocking_world_copiers.specs.declared.copier.CopierNext.TheVariants as next
-use Rattle.blocking_world_copiers.proofs.Words.{Act, Made, Asked, Event, HandleCall, Read, Write}
-use Rattle.blocking_world_copiers.proofs.Words.{Flush}
-use Rattle.blocking_world_copiers.proofs.Polls.{IsCopiers, PollAs, poll_as, step_as}
+use Rattle.blocking_world_copiers.proofs.Words.{Act, Asked, Event, HandleCall, Read, Write, Flush}
+use Rattle.blocking_world_copiers.proofs.Polls.{IsCopiers, poll_as, step_as}
+use Rattle.blocking_world_copiers.proofs.Copying.{none_asking}
 use Rattle.blocking_world_copiers.proofs.OrderSteps.{told_order}
 use Rattle.blocking_world_copiers.proofs.Endings.{took_all}
-use Rattle.blocking_world_copiers.proofs.Seen.{is_own, own_other, own_this, since_other}
-use Rattle.blocking_world_copiers.proofs.Seen.{polls_other, its_own, own_is, links_same, links_more}
+use Rattle.blocking_world_copiers.proofs.Seen.{is_own, own_other, its_own, links_same, links_more}
 use Rattle.blocking_world_copiers.proofs.Seen.{neither}
-use Rattle.blocking_world_copiers.proofs.Stays.{MakesNext, out_is, hear_apart, aside, all_aside}
-use Rattle.blocking_world_copiers.proofs.Stays.{of_same, has_is, in_is, hear_shown, without_shown}
+use Rattle.blocking_world_copiers.proofs.Stays.{MakesNext, out_is, hear_apart, all_aside, of_same}
+use Rattle.blocking_world_copiers.proofs.Stays.{has_is, in_is, hear_shown, without_shown}
 use Rattle.blocking_world_copiers.proofs.Stays.{all_without, apart_without}
 use Rattle.blocking_world_copiers.proofs.Owners.{all_hear, at_rest, heard_same}
 use Rattle.blocking_world_copiers.proofs.Lawful.{found_as, all_ask, begins_by, copied_by}
@@ -138,20 +132,28 @@ no_link step act is = grind arith
 no_next : (step : Step) (act : Act) (many : ℕ) → is_nothing act ≡ true → MakesNext step act many
 no_next step act many is = grind arith
 
+-- The copiers hang together after an event by which none is made, where they are these by now.
+copied_as : (w : Assembled) (past : List Moment) (t : Copied w past) (now : Moment)
+    (new : Assembled) (cs : List CopierState) → new.copiers ≡ cs → new.made ≡ w.made
+    → is_linking now.step now.event.act ≡ false → map shown cs ≡ copiers (now ∷ past)
+    → AreApart cs → AllAs cs (now ∷ past) → Copied new (now ∷ past)
+copied_as w past t now new cs are made none shown_as apart each = record {
+  shown_are = ap (map shown) are ∙ shown_as;
+  made_is = made ∙ t.made_is ∙ sym (links_same now past none);
+  apart = subst AreApart (sym are) apart;
+  each = subst (λ l. AllAs l (now ∷ past)) (sym are) each;
+}
+
 -- nothing is done: all stays
 module _ (w : Assembled) (past : List Moment) (t : Copied w past) (now : Moment) (new : Assembled)
     (stays : AllStay w new) where
   idle_copied : is_nothing now.event.act ≡ true → Copied new (now ∷ past)
-  idle_copied nothing = record {
-    shown_are = ap (map shown) stays.copiers ∙ t.shown_are
-        ∙ sym (stay_by now.step now.event.act (copiers past) nothing);
-    made_is =
-        stays.made ∙ t.made_is ∙ sym (links_same now past (no_link now.step now.event.act nothing));
-    apart = subst AreApart (sym stays.copiers) t.apart;
-    each = subst (λ cs. AllAs cs (now ∷ past)) (sym stays.copiers)
-        (all_aside w.copiers now past (no_next now.step now.event.act (links past) nothing)
-        (λ h by some. absurd (let none = sym some ∙ nothing in cc)) t.each);
-  }
+  idle_copied nothing =
+      copied_as w past t now new w.copiers stays.copiers stays.made
+      (no_link now.step now.event.act nothing)
+      (t.shown_are ∙ sym (stay_by now.step now.event.act (copiers past) nothing)) t.apart
+      (all_aside w.copiers now past (no_next now.step now.event.act (links past) nothing)
+      (λ h by some. absurd (let none = sym some ∙ nothing in cc)) t.each)
 
 -- what makes no copier makes none
 unlinked : (many : ℕ) (step : Step) (act : Act) → is_linking step act ≡ false
@@ -173,6 +175,14 @@ in_is_cut h e by some own_act = by_both (its_own h e by some own_act)
       where
         and_left : (x y : Bool) → (x && y) ≡ true → x ≡ true
         and_left x y is = grind arith
+
+-- whoever makes it keeps the laws of owners
+owner_acts : (h : ℕ) (e : Event) (es : List Event) → OwnerLaws (cut h (e ∷ es))
+    → e.party ≡ ByOwner h → is_nothing e.act ≡ false → is_of_pool e.act ≡ false
+    → OwnerActs (cut h es) e.act
+owner_acts h e es laws by some own_act =
+    subst (λ b. OwnerMayAct b (cut h es) e) (ap is_some_worker by)
+    (with_last OwnerLaw (is_in_cut h e) e (cut h es) (in_is_cut h e by some own_act) laws).acts
 
 -- a step that does nothing
 idle_law : (past : List Moment) (step : Step) (e : Event) → has_action past step ≡ false
@@ -250,15 +260,6 @@ module _ (setting : ℕ) (plan : List Bool) (w : Assembled) (past : List Moment)
     law_now : StepLaw past now
     law_now = step_keeps setting plan w.parts past lawful.parts new.parts e step does.steps free
 
-    -- whoever makes it keeps the laws of owners
-    owner_acts : (h : ℕ) → e.party ≡ ByOwner h → is_nothing e.act ≡ false → is_of_pool e.act ≡ false
-        → OwnerActs (cut h (events past)) e.act
-    owner_acts h by some own_act =
-        let in_cut : is_in_cut h e ≡ true = in_is_cut h e by some own_act in
-        subst (λ b. OwnerMayAct b (cut h (events past)) e) (ap is_some_worker by)
-        (with_last OwnerLaw (is_in_cut h e) e (cut h (events past)) in_cut
-        (parts_now.legal.owners h)).acts
-
     takes_lawful : is_linking step e.act ≡ false
         → copiers_by step e.act (copiers past) ≡ copiers past → StepTells step past e.act
         → ((h : ℕ) → e.party ≡ ByOwner h → is_nothing e.act ≡ false → is_lent h w.copiers ≡ false)
@@ -266,13 +267,9 @@ module _ (setting : ℕ) (plan : List Bool) (w : Assembled) (past : List Moment)
     takes_lawful none same told out =
         whole setting plan w past lawful now new parts_now
         (record {
-          copied = record {
-            shown_are = ap (map shown) does.stays.copiers ∙ t.shown_are ∙ sym same;
-            made_is = does.stays.made ∙ t.made_is ∙ sym (links_same now past none);
-            apart = subst AreApart (sym does.stays.copiers) t.apart;
-            each = subst (λ cs. AllAs cs (now ∷ past)) (sym does.stays.copiers)
-                (all_aside w.copiers now past (unlinked (links past) step e.act none) out t.each);
-          };
+          copied = copied_as w past t now new w.copiers does.stays.copiers does.stays.made none
+              (t.shown_are ∙ sym same) t.apart
+              (all_aside w.copiers now past (unlinked (links past) step e.act none) out t.each);
           step = law_now;
           told = told;
         })
@@ -331,7 +328,8 @@ module _ (setting : ℕ) (plan : List Bool) (w : Assembled) (past : List Moment)
       takes_lawful (New capacity client) e new tt does refl refl tt
       (λ h by some.
       let act = law.act.1 in
-      let acts = owner_acts (New capacity client) e new tt does h by some (ap is_of_pool act) in
+      let laws = (parts_now (New capacity client) e new tt does).legal.owners h in
+      let acts = owner_acts h e (events past) laws by some (ap is_of_pool act) in
       let none : cut h (events past) ≡ [] = subst (OwnerActs (cut h (events past))) act acts in
       made_lent h w.copiers t.each (ap (λ c. is_made (own c)) none))
 
@@ -387,13 +385,9 @@ module _ (setting : ℕ) (plan : List Bool) (w : Assembled) (past : List Moment)
   polls h e new does =
       whole setting plan w past lawful now new parts_next
       (record {
-        copied = record {
-          shown_are = ap (map shown) does.copiers ∙ hear_shown h e.act w.copiers ∙ t.shown_are;
-          made_is = does.made ∙ t.made_is ∙ sym (links_same now past refl);
-          apart = subst AreApart (sym does.copiers) (apart_hear w.copiers t.apart);
-          each =
-              subst (λ cs. AllAs cs (now ∷ past)) (sym does.copiers) (by (is_nothing e.act) refl);
-        };
+        copied = copied_as w past t now new (hear_first h e.act w.copiers) does.copiers does.made
+            refl (hear_shown h e.act w.copiers ∙ t.shown_are) (apart_hear w.copiers t.apart)
+            (by (is_nothing e.act) refl);
         step = law;
         told = tt;
       })
@@ -401,11 +395,11 @@ module _ (setting : ℕ) (plan : List Bool) (w : Assembled) (past : List Moment)
       now : Moment
       now = record { step = Own h; event = e }
 
-      parts_next : PartsAreLawful setting plan new.parts (record { step = Own h; event = e } ∷ past)
+      parts_next : PartsAreLawful setting plan new.parts (now ∷ past)
       parts_next =
           stays_lawful setting plan w.parts past lawful.parts new.parts e (Own h) does.steps
 
-      law : StepLaw past (record { step = Own h; event = e })
+      law : StepLaw past (now)
       law = step_keeps setting plan w.parts past lawful.parts new.parts e (Own h) does.steps tt
 
       same_party : (b : Bool) (who one : Party) → who ≡ (if b then one else one) → who ≡ one
@@ -421,20 +415,18 @@ module _ (setting : ℕ) (plan : List Bool) (w : Assembled) (past : List Moment)
       acts_here false happens some = absurd (let none = sym some ∙ ap is_nothing happens in cc)
 
       by : (b : Bool) → is_nothing e.act ≡ b
-          → AllAs (hear_first h e.act w.copiers) (record { step = Own h; event = e } ∷ past)
+          → AllAs (hear_first h e.act w.copiers) (now ∷ past)
       by true nothing =
-          subst (λ cs. AllAs cs (record { step = Own h; event = e } ∷ past))
+          subst (λ cs. AllAs cs (now ∷ past))
           (sym (hear_nothing h e.act w.copiers nothing))
-          (all_aside w.copiers (record { step = Own h; event = e }) past tt
+          (all_aside w.copiers now past tt
           (λ g of_g some. absurd (let none = sym some ∙ nothing in cc)) t.each)
       by false some =
           let happens = acts_here (has_action past (Own h)) law.act some in
           let runs = polled (under_way (acts_of_owner h (events past))) happens.0 in
-          let in_cut : is_in_cut h e ≡ true = in_is_cut h e by_h some happens.1 in
-          let acts = subst (λ b. OwnerMayAct b (cut h (events past)) e) (ap is_some_worker by_h)
-          (with_last OwnerLaw (is_in_cut h e) e (cut h (events past)) in_cut
-          (parts_next.legal.owners h)).acts in
-          all_hear (record { step = Own h; event = e }) past h by_h some happens.1 tt runs.0 runs.1
+          let acts =
+          owner_acts h e (events past) (parts_next.legal.owners h) by_h some happens.1 in
+          all_hear now past h by_h some happens.1 tt runs.0 runs.1
           (step_as (cut h (events past)) e.act runs.0 runs.1 (poll_as (cut h (events past))
           (lawful.parts.legal.owners h)) acts) w.copiers t.each t.apart
 
@@ -577,9 +569,9 @@ module _ (setting : ℕ) (plan : List Bool) (w : Assembled) (past : List Moment)
       made : makes_copier w.made (Link a b n) e.act ≡ true
       made = ap (makes_copier w.made (Link a b n)) act_is ∙ eq-eqb w.made w.made refl
 
-      none_since : since w.made (record { step = Link a b n; event = e } ∷ past) ≡ []
+      none_since : since w.made (now ∷ past) ≡ []
       none_since = ap
-          (λ x. if x then [] else record { step = Link a b n; event = e } ∷ since w.made past) made
+          (λ x. if x then [] else now ∷ since w.made past) made
 
       out : is_by_either (shown (new_copier w.made a b n)) e ≡ false
       out = out_is (new_copier w.made a b n) e
@@ -608,16 +600,12 @@ module _ (setting : ℕ) (plan : List Bool) (w : Assembled) (past : List Moment)
         stands =
             (refl, refl, (writes.resting, nothing_b.1), inl ((reads.resting, nothing_a.0), refl));
         next_is = refl;
-        asking =
-            record {
-              reading = λ asked runs. absurd (let none = sym reads.resting ∙ runs in cc);
-              writing = λ asked runs. absurd (let none = sym writes.resting ∙ runs in cc);
-            };
+        asking = none_asking reads.resting writes.resting;
       }
 
-      new_as : CopierAs (new_copier w.made a b n) (record { step = Link a b n; event = e } ∷ past)
+      new_as : CopierAs (new_copier w.made a b n) (now ∷ past)
       new_as = record {
-        known = (let more = links_more (record { step = Link a b n; event = e }) past linking in
+        known = (let more = links_more now past linking in
             let many = t.made_is in omega (arith, more, many));
         differ = so.apart;
         order = subst (InOrder (action.Read n)) (sym (ap (λ l. own (cut b (events l))) none_since))
@@ -663,28 +651,18 @@ module _ (setting : ℕ) (plan : List Bool) (w : Assembled) (past : List Moment)
 
   may_copy_is : (c : CopierState) → CopierAs c past
       → may_copy (Some (shown c)) past ≡ may_copy_in w c
-  may_copy_is c tie = by (is_poll_over (under_way (acts_of_owner c.reader (events past))))
-      (is_poll_over (under_way (acts_of_owner c.writer (events past)))) refl refl
+  may_copy_is c tie =
+      same_test (is_poll_over (under_way (acts_of_owner c.reader (events past))))
+      (is_poll_over (under_way (acts_of_owner c.writer (events past))))
+      (rests_in (slice_get w.parts.owners c.reader)) (rests_in (slice_get w.parts.owners c.writer))
+      (may_do_in w c.reader c.writer (next_of c)) (rests_is c.reader tie.by.reader_open)
+      (rests_is c.writer tie.by.writer_open) (λ r v. may_do_is c tie r v c.core.next)
     where
-      by : (x y : Bool) → is_poll_over (under_way (acts_of_owner c.reader (events past))) ≡ x
-          → is_poll_over (under_way (acts_of_owner c.writer (events past))) ≡ y
-          → may_copy (Some (shown c)) past ≡ may_copy_in w c
-      by true true r v =
-          ap (λ b. b && is_poll_over (under_way (acts_of_owner c.writer (events past)))) r ∙ v
-          ∙ sym (ap (λ b. (b && rests_in (slice_get w.parts.owners c.writer)) && may_do_in w
-          c.reader c.writer (next_of c)) (rests_is c.reader tie.by.reader_open ∙ r)
-          ∙ ap (λ b. b && may_do_in w c.reader c.writer (next_of c))
-          (rests_is c.writer tie.by.writer_open ∙ v) ∙ may_do_is c tie r v c.core.next)
-      by false y r v =
-          ap (λ b. b && is_poll_over (under_way (acts_of_owner c.writer (events past)))) r
-          ∙ sym (ap (λ b. (b && rests_in (slice_get w.parts.owners c.writer)) && may_do_in w
-          c.reader c.writer (next_of c)) (rests_is c.reader tie.by.reader_open ∙ r))
-      by true false r v =
-          ap (λ b. b && is_poll_over (under_way (acts_of_owner c.writer (events past)))) r ∙ v
-          ∙ sym (ap (λ b. (b && rests_in (slice_get w.parts.owners c.writer)) && may_do_in w
-          c.reader c.writer (next_of c)) (rests_is c.reader tie.by.reader_open ∙ r)
-          ∙ ap (λ b. b && may_do_in w c.reader c.writer (next_of c))
-          (rests_is c.writer tie.by.writer_open ∙ v))
+      same_test : (x y r v d : Bool) → r ≡ x → v ≡ y → (x ≡ true → y ≡ true → d ≡ true)
+          → (x && y) ≡ ((r && v) && d)
+      same_test true true r v d reader writer does = let done = does refl refl in grind arith
+      same_test true false r v d reader writer does = grind arith
+      same_test false y r v d reader writer does = grind arith
 
   has_copy : (k : ℕ) (c : CopierState) → copier_at k w.copiers ≡ Some c
       → has_action past (Copy k) ≡ may_copy_in w c
@@ -720,7 +698,7 @@ module _ (setting : ℕ) (plan : List Bool) (w : Assembled) (past : List Moment)
     -- what is seen of it is what it does next
     copy_law : (what : CopierAction) → as_action (next_of c) ≡ what → e.act ≡ act_of_copier what
         → is_nothing e.act ≡ false → e.party ≡ asked_by what (shown c) → e.job ≡ None
-        → e.owner ≡ None → StepLaw past (record { step = Copy k; event = e })
+        → e.owner ≡ None → StepLaw past copy_now
     copy_law what is act some by jobless ownerless =
         let agrees : what ≡ next_of_copier (shown c) past = sym is ∙ next_agrees c past tie in
         done_law past (Copy k) e (has_copy k c found ∙ may) some
@@ -731,25 +709,20 @@ module _ (setting : ℕ) (plan : List Bool) (w : Assembled) (past : List Moment)
     -- it asks an owner
     asked_so : (g : ℕ) (asked : HandleCall)
         → belongs g c ≡ true → Tells (Copy k) (ByOwner g) (Asked asked) w e new
-        → CopierAs c (record { step = Copy k; event = e } ∷ past) → (what : CopierAction)
+        → CopierAs c (copy_now ∷ past) → (what : CopierAction)
         → as_action (next_of c) ≡ what
         → Asked asked ≡ act_of_copier what → ByOwner g ≡ asked_by what (shown c)
-        → IsLawful setting plan new (record { step = Copy k; event = e } ∷ past)
+        → IsLawful setting plan new (copy_now ∷ past)
     asked_so g asked its does after what is act by =
         whole setting plan w past lawful copy_now new (copier_lawful setting plan w.parts past
         lawful.parts new.parts e (Copy k) (ByOwner g) (Asked asked) does.moves)
         (record {
-          copied = record {
-            shown_are = ap (map shown) does.stays.copiers ∙ t.shown_are
-                ∙ sym (ap (λ x. copiers_by (Copy k) x (copiers past)) does.moves.act_is);
-            made_is = does.stays.made ∙ t.made_is
-                ∙ sym (links_same copy_now past (ap (is_linking (Copy k)) does.moves.act_is));
-            apart = subst AreApart (sym does.stays.copiers) t.apart;
-            each = subst (λ cs. AllAs cs (copy_now ∷ past)) (sym does.stays.copiers)
-                (all_ask copy_now past k g c does.moves.by its
-                (subst (λ x. MakesNext (Copy k) x (links past)) (sym does.moves.act_is) tt)
-                after w.copiers found t.each t.apart);
-          };
+          copied = copied_as w past t copy_now new w.copiers does.stays.copiers does.stays.made
+              (ap (is_linking (Copy k)) does.moves.act_is)
+              (t.shown_are ∙ sym (ap (λ x. copiers_by (Copy k) x (copiers past)) does.moves.act_is))
+              t.apart (all_ask copy_now past k g c does.moves.by its
+              (subst (λ x. MakesNext (Copy k) x (links past)) (sym does.moves.act_is) tt)
+              after w.copiers found t.each t.apart);
           step = copy_law what is (does.moves.act_is ∙ act) (ap is_nothing does.moves.act_is)
               (does.moves.by ∙ by) does.moves.jobless does.moves.ownerless;
           told = subst (λ x. TellsTruly (copier_in k (copiers past)) past x) (sym does.moves.act_is)
@@ -765,24 +738,20 @@ module _ (setting : ℕ) (plan : List Bool) (w : Assembled) (past : List Moment)
         ≡ false → copiers_by (Copy k) act (copiers past) ≡ without_copier k (copiers past)
         → MakesNext (Copy k) act (links past)
         → as_action (next_of c) ≡ TellsEnd act → TellsTruly (Some (shown c)) past act
-        → IsLawful setting plan new (record { step = Copy k; event = e } ∷ past)
+        → IsLawful setting plan new (copy_now ∷ past)
     ended_so act does some none gone next is truly =
         whole setting plan w past lawful copy_now new (copier_lawful setting plan w.parts past
         lawful.parts new.parts e (Copy k) Pool act does.moves)
         (record {
-          copied = record {
-            shown_are = ap (map shown) does.copiers
-                ∙ without_shown k w.copiers t.apart ∙ ap (without_copier k) t.shown_are ∙ sym gone
-                ∙ sym (ap (λ x. copiers_by (Copy k) x (copiers past)) does.moves.act_is);
-            made_is = does.made ∙ t.made_is ∙ sym
-                (links_same copy_now past (ap (is_linking (Copy k)) does.moves.act_is ∙ none));
-            apart = subst AreApart (sym does.copiers) (apart_without k w.copiers t.apart);
-            each = subst (λ cs. AllAs cs (copy_now ∷ past)) (sym does.copiers)
-                (all_aside (without_number k w.copiers) copy_now past
-                (subst (λ x. MakesNext (Copy k) x (links past)) (sym does.moves.act_is) next)
-                (λ g of_g something. absurd (let other = sym does.moves.by ∙ of_g in cc))
-                (all_without k w.copiers past t.each));
-          };
+          copied = copied_as w past t copy_now new (without_number k w.copiers) does.copiers
+              does.made (ap (is_linking (Copy k)) does.moves.act_is ∙ none)
+              (without_shown k w.copiers t.apart ∙ ap (without_copier k) t.shown_are ∙ sym gone
+              ∙ sym (ap (λ x. copiers_by (Copy k) x (copiers past)) does.moves.act_is))
+              (apart_without k w.copiers t.apart)
+              (all_aside (without_number k w.copiers) copy_now past
+              (subst (λ x. MakesNext (Copy k) x (links past)) (sym does.moves.act_is) next)
+              (λ g of_g something. absurd (let other = sym does.moves.by ∙ of_g in cc))
+              (all_without k w.copiers past t.each));
           step =
               copy_law (TellsEnd act) is does.moves.act_is (ap is_nothing does.moves.act_is ∙ some)
               does.moves.by does.moves.jobless does.moves.ownerless;
@@ -791,7 +760,7 @@ module _ (setting : ℕ) (plan : List Bool) (w : Assembled) (past : List Moment)
         })
 
     copies_so : (n : CopierNext) → next_of c ≡ n → Copies k c n w e new
-        → IsLawful setting plan new (record { step = Copy k; event = e } ∷ past)
+        → IsLawful setting plan new (copy_now ∷ past)
     copies_so (next.AskReader asked) is does =
         asked_so c.reader asked (own_reader c) does (reader_asked copy_now past c tie
         asked does.moves.act_is does.moves.by is (both_over c tie may).0) (AskReader asked)

@@ -2,7 +2,6 @@
 use Rattle.std.proofs.Common.{◌≡◌, refl, sym, ap, ◌∙◌, length, Some, None, slice_get}
 use Rattle.std.specs.List.{position_or_len}
 use Rattle.std.proofs.lemmas.Option.{slice_get_past, slice_get_read}
-use Rattle.blocking_world_laws.specs.declared.step.Step.TheVariants.{Copy}
 use Rattle.blocking_world_copiers.specs.Assemblies.{Assembled, bytes_to_copy, bytes_to_come}
 use Rattle.blocking_world_copiers.specs.Copiers.{copier_at, has_number}
 use Rattle.blocking_world_copiers.specs.contracts.assembly.Assembly.{the_view}

@@ -1,5 +1,5 @@
 -- The copier of this number takes its step, if it is there.
-use Rattle.std.proofs.Common.{sym, ap, ◌∙◌, length, subst, arith, nat_lt, ◌<◌}
+use Rattle.std.proofs.Common.{sym, ap, ◌∙◌, length, arith, ◌<◌}
 use Rattle.std.proofs.lemmas.Bool.Decides.{nat_tests}
 use Rattle.std.specs.List.{position_or_len}
 use Rattle.blocking_world_laws.specs.declared.step.Step.TheVariants.{Copy}

@@ -1,9 +1,8 @@
 -- An owner that is lent to nobody.
-use Rattle.std.proofs.Common.{refl, sym, ap, ◌∙◌, length, arith, nat_lt}
+use Rattle.std.proofs.Common.{refl, sym, ap, ◌∙◌, arith}
 use Rattle.std.proofs.lemmas.Bool.Decides.{nat_tests}
 use Rattle.std.specs.List.{position_or_len}
 use Rattle.blocking_world_state.proofs.moves.Steps.{ok_map}
-use Rattle.blocking_world_copiers.specs.Assemblies.{Assembled}
 use Rattle.blocking_world_copiers.specs.Copiers.{belongs}
 use Rattle.blocking_world_copiers.specs.contracts.assembly.Assembly.{the_view}
 use Rattle.blocking_world_copiers.proofs.Steps.{unheard}

@@ -1,5 +1,4 @@
 -- The steps that are the parts' own.
-use Rattle.std.proofs.Common.{refl, sym, subst}
 use Rattle.blocking_world_state.proofs.moves.Steps.{ok_map}
 use Rattle.blocking_world_copiers.proofs.Steps.{own_step, passed}
 use Rattle.blocking_world_copiers.proofs.assembly.Assembly.step.Goals as goal
