@@ -90,6 +90,8 @@ impl<'a, H: Runtime, J: Job + Carries<CallJob<Change, H>> + Carries<WriteJob<Sha
         ensures refused { IfSome self.old.task (λ change. IfSome change.refused (λ answer. result ≡ Poll.Ready answer)) }
         ensures value { IfSome self.old.task (λ change. IsNone change.refused → IfReady result (λ _. IsSome change.task)) }
         ensures behind { IfSome self.old.task (λ change. IsNone change.task → IsNone change.refused → result ≡ Poll.Pending) }
+        ensures stays { IfSome self.old.task (λ old. IsSomeAnd self.new.task (λ new. (new.asked ≡ old.asked)
+            × OnPending result (IsSome new.task ↔ IsSome old.task))) }
         ensures taken { IfReady result (λ _. IsSomeAnd self.new.task (λ change. IsNone change.task × IsNone change.refused)) }
         ensures armed { OnPending result (Covers cx.new (λ _. ⊥)) }
         ensures seated { OnPending result (IfSome self.new.task (λ change. IfSome change.task (λ task. IsSome task.asked))) }

@@ -1,5 +1,5 @@
 //! A copy of a file to another.
-ghost use Rattle.std.specs.Prelude.{◌≡◌, false, Err, IfOk, IfErr, IfSome, IsErr, IsNone, IsSome, IsSomeAnd};
+ghost use Rattle.std.specs.Prelude.{◌≡◌, ◌↔◌, false, Err, IfOk, IfErr, IfSome, IsErr, IsNone, IsSome, IsSomeAnd};
 ghost use Rattle.futures.specs.Poll.{IfReady, OnPending};
 ghost use Rattle.futures.specs.Task.{Covers, Keeps};
 ghost use Rattle.futures.specs.declared.task.Poll.{Poll};
@@ -71,6 +71,8 @@ impl<H: Runtime, J: Job + Carries<ReadJob<Shared, H>> + Carries<WriteJob<Shared,
         ensures refused { IfSome self.old.task.refused (λ answer. IfErr answer (λ why. result ≡ Poll.Ready (Err why))) }
         ensures behind { IsNone self.old.task.task → IsNone self.old.task.refused → result ≡ Poll.Pending }
         ensures taken { IfReady result (λ _. IsNone self.new.task.task × IsNone self.new.task.refused) }
+        ensures asked { self.new.task.asked ≡ self.old.task.asked }
+        ensures waits { OnPending result (IsSome self.new.task.task ↔ IsSome self.old.task.task) }
         ensures seated { OnPending result (IfSome self.new.task.task (λ task. IsSome task.asked)) }
         ensures registered { OnPending result
             (Covers cx.new (λ source. IsSomeAnd self.new.task.task (λ task. source ≡ task.source.id))) }
@@ -104,6 +106,8 @@ impl<H: Runtime, J: Job + Carries<ReadJob<Shared, H>> + Carries<WriteJob<Shared,
             → IfSome self.old.task.refused (λ answer. IfErr answer (λ why. result ≡ Poll.Ready (Err why))) }
         ensures behind { IsNone self.old.copier → IsNone self.old.task.task → IsNone self.old.task.refused → result ≡ Poll.Pending }
         ensures taken { IfReady result (λ _. IsNone self.new.task.task × IsNone self.new.task.refused) }
+        ensures asked { self.new.task.asked ≡ self.old.task.asked }
+        ensures waits { OnPending result (IsNone self.new.copier → (IsSome self.new.task.task ↔ IsSome self.old.task.task)) }
         ensures armed { OnPending result (Covers cx.new (λ _. ⊥)) }
         ensures seated { OnPending result (IsNone self.new.copier → IfSome self.new.task.task (λ task. IsSome task.asked)) }
         ensures registered { OnPending result (IsNone self.new.copier →

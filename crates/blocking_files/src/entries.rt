@@ -144,6 +144,7 @@ impl<H: Runtime, J: Job> Future for Listing<H, J> {
         ensures refused { IfSome self.old.task.refused (λ answer. IfErr answer (λ why. result ≡ Poll.Ready (Err why))) }
         ensures behind { IsNone self.old.task.task → IsNone self.old.task.refused → result ≡ Poll.Pending }
         ensures taken { IfReady result (λ _. IsNone self.new.task.task × IsNone self.new.task.refused) }
+        ensures asked { self.new.task.asked ≡ self.old.task.asked }
         ensures waits { OnPending result (IsSome self.new.task.task ↔ IsSome self.old.task.task) }
         ensures seated { OnPending result (IfSome self.new.task.task (λ task. IsSome task.asked)) }
         ensures registered { OnPending result
