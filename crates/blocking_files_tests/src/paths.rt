@@ -28,9 +28,9 @@ fn write_and_read<H: Host, J: CarriesFiles<H>>(
     now(&rt, files.write(path, "oaks"))?;
     now(&rt, files.write(path, "elm"))?;
     let length = now(&rt, files.metadata(path))?.len();
-    let bytes = now(&rt, files.read(path))?;
-    let text = now(&rt, files.read_to_string(path))?;
-    Ok((bytes, text, length))
+    let bytes = files.read(path);
+    let text = files.read_to_string(path);
+    Ok((now(&rt, bytes)?, now(&rt, text)?, length))
 }
 
 // Writes what is no text, renames and removes it: how it fails to be read as text, and to be read under its first name.
@@ -99,8 +99,10 @@ fn look<H: Host, J: CarriesFiles<H>>(
     files: &Files<H, J>,
     link: Path<'_>,
 ) -> io::Result<(bool, bool)> {
-    let link_is = now(&rt, files.symlink_metadata(link))?.is_symlink();
-    Ok((link_is, now(&rt, files.metadata(link))?.is_dir()))
+    let call = files.symlink_metadata(link);
+    let begun = !call.is_taken();
+    let link_is = now(&rt, call)?.is_symlink();
+    Ok((begun && link_is, now(&rt, files.metadata(link))?.is_dir()))
 }
 
 // How many entries come, of which each is `a` or `link`.
@@ -127,7 +129,8 @@ fn list<H: Host, J: CarriesFiles<H>>(
     files: &Files<H, J>,
     folder: Path<'_>,
 ) -> io::Result<usize> {
-    count(rt, &mut now(&rt, files.read_dir(folder))?)
+    let mut entries = now(&rt, files.read_dir(folder))?;
+    count(rt, &mut entries)
 }
 
 // Removes folders: how that failed for one that isn't empty.
