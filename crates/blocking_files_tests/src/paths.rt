@@ -1,7 +1,7 @@
 //! Calls on paths. They are made over any job type that carries them, which costs less to prove, and then over a pool.
 use crate::folder::{folder, now};
-use blocking::Host;
-use blocking_files::{CarriesFiles, Files};
+use blocking::{CallJob, Carries, Host, Job};
+use blocking_files::{CarriesFiles, Change, Files, Look};
 use futures::executor::block_on;
 use futures::{Stream, StreamExt};
 use std::fs::DirEntry;
@@ -93,8 +93,8 @@ fn make<H: Host, J: CarriesFiles<H>>(
     Ok((nowhere, kind_of(&now(&rt, files.create_dir(deep)))))
 }
 
-// Whether a link is looked at, and whether what it leads to is.
-fn look<H: Host, J: CarriesFiles<H>>(
+// Whether a link is looked at, and whether what it leads to is. (over any job type that carries such a look)
+fn look<H: Host, J: Job + Carries<CallJob<Look, H>>>(
     rt: H,
     files: &Files<H, J>,
     link: Path<'_>,
@@ -133,8 +133,8 @@ fn list<H: Host, J: CarriesFiles<H>>(
     count(rt, &mut entries)
 }
 
-// Removes folders: how that failed for one that isn't empty.
-fn remove<H: Host, J: CarriesFiles<H>>(
+// Removes folders: how that failed for one that isn't empty. (over any job type that carries such a change)
+fn remove<H: Host, J: Job + Carries<CallJob<Change, H>>>(
     rt: H,
     files: &Files<H, J>,
     outer: Path<'_>,

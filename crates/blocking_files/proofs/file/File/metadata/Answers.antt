@@ -1,4 +1,4 @@
-use Rattle.std.proofs.Common.{arith, refl}
+use Rattle.std.proofs.Common.{arith, rules, refl}
 use Rattle.std.specs.Prelude.{◌≡◌, Option, Some, None, Result, Ok, Err, MatchResult, IsOkAnd}
 use Rattle.std.specs.Prelude.{IsSomeAnd, IsNone, IfSome, IfOk, IfErr}
 use Rattle.std.specs.Arc.{arc_value}
@@ -23,5 +23,7 @@ pub returns-clause-asked : goal.returns-clause-asked
 returns-clause-asked g c =
     asked_of c.try_clone.result c.map.result c.look.result.asked (λ asked. asked.value.what) _
     (IsFileLook (arc_value c.args.self.now.file)) c.map.ensures.cases
-    (λ x w is post. rw post (rw is at c.try_clone.ensures))
+    (λ x w is post.
+    let share : arc_value x ≡ arc_value c.args.self.now.file = rw is at c.try_clone.ensures in
+    search (rules, post, share))
     c.look.ensures.asked c.look.ensures.refused
