@@ -102,6 +102,16 @@ impl Call for ReadText {
 }
 
 /// The call that changes what the system has, and gives nothing.
+///
+/// ```rust
+/// fn remove<H: Host, J: Job + Carries<CallJob<Change, H>>>(
+///     rt: H,
+///     files: &Files<H, J>,
+///     outer: Path<'_>,
+/// ) -> io::Result<()> {
+///     block_on(&rt, files.remove_dir_all(outer))?
+/// }
+/// ```
 #[derive(Drop)]
 pub struct Change {
     pub(crate) system: HostRuntime,
@@ -157,6 +167,16 @@ impl Call for Change {
 }
 
 /// The call that asks what the system knows of a file.
+///
+/// ```rust
+/// fn look<H: Host, J: Job + Carries<CallJob<Look, H>>>(
+///     rt: H,
+///     files: &Files<H, J>,
+///     link: Path<'_>,
+/// ) -> io::Result<bool> {
+///     Ok(block_on(&rt, files.metadata(link))??.is_dir())
+/// }
+/// ```
 #[derive(Drop)]
 pub struct Look {
     pub(crate) system: HostRuntime,

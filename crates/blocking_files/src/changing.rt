@@ -1,5 +1,6 @@
 //! A change of an open file.
-ghost use Rattle.std.specs.Prelude.{◌≡◌, Some, Ok, IfSome, IsNone, IsSome, IsSomeAnd};
+ghost use Rattle.std.specs.Prelude.{◌≡◌, ◌↔◌, Some, Ok, IfOk, IfSome, IsErr, IsNone, IsSome, IsSomeAnd};
+ghost use Rattle.std.specs.Option.{ForSome};
 
 use crate::calls::{Change, Changes, Shared};
 use crate::file::File;
@@ -16,6 +17,11 @@ use std::io;
 ///
 /// It may be polled at any time; behind its answer it is pending for good. Where the flush fails, its fault is the answer, and nothing is
 /// changed.
+///
+/// ```rust
+/// block_on(&rt, file.set_len(4))??;
+/// block_on(&rt, file.sync_all())?
+/// ```
 #[derive(Drop)]
 pub struct Changing<'a, H: Runtime, J: Job = FileJob<H>> {
     file: &'a mut File<H, J>,
@@ -23,6 +29,8 @@ pub struct Changing<'a, H: Runtime, J: Job = FileJob<H>> {
     what: Option<Result<Changes, AllocError>>,
     // The change, once it is flushed.
     task: Option<FileTask<Change, H>>,
+    ghost unasked: { ForSome task (λ change. ForSome change.refused (λ answer. IsErr answer)) },
+    ghost named: { IsNone task → IsSome what },
 }
 
 impl<'a, H: Runtime, J: Job> Changing<'a, H, J> {
@@ -47,7 +55,9 @@ fn begin<H: Runtime, J: Job + Carries<CallJob<Change, H>>>(
     files: &Files<H, J>,
     what: Option<Result<Changes, AllocError>>,
 ) -> FileTask<Change, H>
-    ensures { IfSome result.asked (λ asked. what ≡ Some (Ok asked.value.what)) }
+    ensures asked { IfSome result.asked (λ asked. what ≡ Some (Ok asked.value.what)) }
+    ensures answered { IsSome what → IsNone result.task → IsSomeAnd result.refused (λ answer. IsErr answer) }
+    ensures refused { IfSome result.refused (λ answer. IsErr answer) }
 {
     match what {
         Some(what) => files.change(what),
@@ -59,6 +69,7 @@ impl<'a, H: Runtime, J: Job + Carries<CallJob<Change, H>> + Carries<WriteJob<Sha
     for Changing<'a, H, J> {
     ghost use Rattle.futures.specs.Poll.{IfReady, OnPending};
     ghost use Rattle.futures.specs.Task.{Covers, Keeps};
+    ghost use Rattle.futures.specs.declared.task.Poll.{Poll};
     ghost use Rattle.blocking_core.specs.declared.unblock.PollCall.TheVariants.{Flush as FlushCall};
     ghost use Rattle.blocking_unblock.specs.Owners.{Follows, reply_of_done};
     ghost use Rattle.blocking_files.specs.Told.{IsFlushed};
@@ -72,8 +83,16 @@ impl<'a, H: Runtime, J: Job + Carries<CallJob<Change, H>> + Carries<WriteJob<Sha
             self.old.what ≡ Some (Ok asked.value.what))) }
         ensures flushed { IsNone self.old.task → (flushed : _)
             × Follows FlushCall self.old.file.now.owner.owner.place (reply_of_done flushed) self.new.file.now.owner.owner.place
-            × IfSome self.new.task (λ task. IsSome task.asked → IsFlushed flushed) }
-        ensures done { IfReady result (λ _. IsSome self.new.task) }
+            × IfSome self.new.task (λ task. IsSome task.asked → IsFlushed flushed)
+            × (IsNone self.new.task → flushed ≡ Poll.Pending) }
+        ensures begun { OnPending result (IsNone self.old.task → IfSome self.new.task (λ change. IsSome change.task)) }
+        ensures made { IfReady result (λ r. IfOk r (λ _. IsSomeAnd self.new.task (λ change. IsSome change.asked))) }
+        ensures refused { IfSome self.old.task (λ change. IfSome change.refused (λ answer. result ≡ Poll.Ready answer)) }
+        ensures value { IfSome self.old.task (λ change. IsNone change.refused → IfReady result (λ _. IsSome change.task)) }
+        ensures behind { IfSome self.old.task (λ change. IsNone change.task → IsNone change.refused → result ≡ Poll.Pending) }
+        ensures stays { IfSome self.old.task (λ old. IsSomeAnd self.new.task (λ new. (new.asked ≡ old.asked)
+            × OnPending result (IsSome new.task ↔ IsSome old.task))) }
+        ensures taken { IfReady result (λ _. IsSomeAnd self.new.task (λ change. IsNone change.task × IsNone change.refused)) }
         ensures armed { OnPending result (Covers cx.new (λ _. ⊥)) }
         ensures seated { OnPending result (IfSome self.new.task (λ change. IfSome change.task (λ task. IsSome task.asked))) }
         ensures registered { OnPending result (IfSome self.new.task (λ change.

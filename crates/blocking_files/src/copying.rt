@@ -1,7 +1,8 @@
 //! A copy of a file to another.
-ghost use Rattle.std.specs.Prelude.{◌≡◌, false, IfOk, IfErr, IfSome, IsNone, IsSome, IsSomeAnd};
+ghost use Rattle.std.specs.Prelude.{◌≡◌, ◌↔◌, false, Err, IfOk, IfErr, IfSome, IsErr, IsNone, IsSome, IsSomeAnd};
 ghost use Rattle.futures.specs.Poll.{IfReady, OnPending};
 ghost use Rattle.futures.specs.Task.{Covers, Keeps};
+ghost use Rattle.futures.specs.declared.task.Poll.{Poll};
 ghost use Rattle.std.specs.Option.{ForSome};
 ghost use Rattle.blocking_io.specs.CopySteps.{is_over};
 
@@ -24,6 +25,10 @@ const PIECE: usize = 65_536;
 /// once all of them were written and flushed, which doesn't mean that the disk has them.
 ///
 /// It may be polled at any time; behind its answer it is pending for good. After a fault the copy may have a part of the bytes.
+///
+/// ```rust
+/// let copied = block_on(&rt, files.copy(from, to))??;
+/// ```
 #[derive(Drop)]
 pub struct Copying<H: Runtime, J: Job = FileJob<H>> {
     // The call that opens both.
@@ -34,12 +39,14 @@ pub struct Copying<H: Runtime, J: Job = FileJob<H>> {
     // The copy, once both are open and until it was ready.
     copier: Option<Copier<File<H, J>, File<H, J>>>,
     ghost going: { ForSome copier (λ copier. is_over copier.core.next ≡ false) },
+    ghost opened: { ForSome copier (λ _. IsNone task.task × IsNone task.refused) },
 }
 
 impl<H: Runtime, J: Job + Carries<CallJob<OpenBoth, H>>> Copying<H, J> {
     pub(crate) fn new(files: &Files<H, J>, call: Result<OpenBoth, AllocError>) -> Copying<H, J>
         ensures asked { IfOk call (λ call. IsSomeAnd result.task.asked (λ asked. asked.value ≡ call)) }
         ensures refused { IfErr call (λ _. IsNone result.task.asked) }
+        ensures answered { IsNone result.task.task → IsSomeAnd result.task.refused (λ answer. IsErr answer) }
     {
         Copying {
             task: files.begin(call),
@@ -61,6 +68,11 @@ impl<H: Runtime, J: Job + Carries<ReadJob<Shared, H>> + Carries<WriteJob<Shared,
     ) -> Poll<io::Result<Copier<File<H, J>, File<H, J>>>>
         ensures going { IfReady result (λ r. IfOk r (λ copier. is_over copier.core.next ≡ false)) }
         ensures same { self.new.copier ≡ self.old.copier }
+        ensures refused { IfSome self.old.task.refused (λ answer. IfErr answer (λ why. result ≡ Poll.Ready (Err why))) }
+        ensures behind { IsNone self.old.task.task → IsNone self.old.task.refused → result ≡ Poll.Pending }
+        ensures taken { IfReady result (λ _. IsNone self.new.task.task × IsNone self.new.task.refused) }
+        ensures asked { self.new.task.asked ≡ self.old.task.asked }
+        ensures waits { OnPending result (IsSome self.new.task.task ↔ IsSome self.old.task.task) }
         ensures seated { OnPending result (IfSome self.new.task.task (λ task. IsSome task.asked)) }
         ensures registered { OnPending result
             (Covers cx.new (λ source. IsSomeAnd self.new.task.task (λ task. source ≡ task.source.id))) }
@@ -90,6 +102,12 @@ impl<H: Runtime, J: Job + Carries<ReadJob<Shared, H>> + Carries<WriteJob<Shared,
 
     fn poll(&mut self, cx: &mut Context<'_>) -> Poll<io::Result<u64>>
         ensures over { IfReady result (λ _. IsNone self.new.copier) }
+        ensures refused { IsNone self.old.copier
+            → IfSome self.old.task.refused (λ answer. IfErr answer (λ why. result ≡ Poll.Ready (Err why))) }
+        ensures behind { IsNone self.old.copier → IsNone self.old.task.task → IsNone self.old.task.refused → result ≡ Poll.Pending }
+        ensures taken { IfReady result (λ _. IsNone self.new.task.task × IsNone self.new.task.refused) }
+        ensures asked { self.new.task.asked ≡ self.old.task.asked }
+        ensures waits { OnPending result (IsNone self.new.copier → (IsSome self.new.task.task ↔ IsSome self.old.task.task)) }
         ensures armed { OnPending result (Covers cx.new (λ _. ⊥)) }
         ensures seated { OnPending result (IsNone self.new.copier → IfSome self.new.task.task (λ task. IsSome task.asked)) }
         ensures registered { OnPending result (IsNone self.new.copier →

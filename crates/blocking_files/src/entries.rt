@@ -1,5 +1,5 @@
 //! The entries of a directory.
-ghost use Rattle.std.specs.Prelude.{◌≡◌, ◌<◌, ◌↔◌, IfOk, IfErr, IfSome, IsNone, IsSome, IsSomeAnd};
+ghost use Rattle.std.specs.Prelude.{◌≡◌, ◌+◌, ◌<◌, ◌↔◌, Err, IfOk, IfErr, IfSome, IsErr, IsNone, IsSome, IsSomeAnd};
 ghost use Rattle.blocking_core.specs.declared.unblock.State.TheVariants.{Idle};
 ghost use Rattle.blocking_unblock.specs.Owners.{IsAt};
 ghost use Rattle.blocking_files.specs.Told.{IsFlat};
@@ -21,6 +21,17 @@ use std::io::ErrorKind;
 ///
 /// An entry has a path and a name. What else the system knows of it is asked by [`Files::symlink_metadata`] of its path; the entry's own
 /// `metadata` would have the caller wait.
+///
+/// ```rust
+/// for _ in rt.forever() {
+///     let Some(entry) = block_on(&rt, entries.next())? else {
+///         break;
+///     };
+///     if matches!(entry?.file_name(), "a" | "link") {
+///         count = count.saturating_add(1);
+///     }
+/// }
+/// ```
 #[derive(Drop)]
 pub struct Entries<H: Runtime, J: Job = FileJob<H>> {
     owner: OpenItems<Box<ReadDir>, io::Result<DirEntry>, H, J>,
@@ -56,17 +67,22 @@ fn flat<X>(polled: Poll<Option<Result<io::Result<X>, Refusal>>>) -> Poll<Option<
 
 impl<H: Runtime, J: Job + Carries<ItemJob<Box<ReadDir>, io::Result<DirEntry>, H>>> Stream
     for Entries<H, J> {
-    ghost use Rattle.futures.specs.Poll.{OnPending};
+    ghost use Rattle.futures.specs.Poll.{IfReady, OnPending};
     ghost use Rattle.futures.specs.Task.{IsArmed, Keeps};
     ghost use Rattle.blocking_core.specs.declared.unblock.PollCall.TheVariants.{Next as NextCall};
-    ghost use Rattle.blocking_unblock.specs.Owners.{Follows, reply_of_next};
+    ghost use Rattle.blocking_unblock.specs.Owners.{Follows, KeepsRefused, crossed_at, crossed_before, reply_of_next};
 
     type Item = io::Result<DirEntry>;
 
     /// The next entry, or None behind the last. It may be asked again.
     fn poll_next(&mut self, cx: &mut Context<'_>) -> Poll<Option<io::Result<DirEntry>>>
         ensures follows { (polled : _) × IsFlat polled result
-            × Follows NextCall self.old.owner.owner.place (reply_of_next polled) self.new.owner.owner.place }
+            × Follows NextCall self.old.owner.owner.place (reply_of_next polled) self.new.owner.owner.place
+            × KeepsRefused self.old.owner.owner.place (reply_of_next polled) self.new.owner.owner.place
+            × IfReady polled (λ next. IfSome next (λ r. IfOk r (λ _.
+            crossed_at self.new.owner.owner.place ≡ crossed_before NextCall self.old.owner.owner.place + 1))) }
+        ensures rest { (self.new.owner.owner.capacity ≡ self.old.owner.owner.capacity)
+            × (self.new.owner.owner.executor ≡ self.old.owner.owner.executor) }
         ensures armed { OnPending result (IsArmed cx.new) }
         ensures kept { Keeps cx.old cx.new }
     {
@@ -75,6 +91,11 @@ impl<H: Runtime, J: Job + Carries<ItemJob<Box<ReadDir>, io::Result<DirEntry>, H>
 }
 
 /// A directory that is being opened: a future of its entries. It may be polled at any time; behind its answer it is pending for good.
+///
+/// ```rust
+/// let mut entries = block_on(&rt, files.read_dir(folder))??;
+/// count(rt, &mut entries)
+/// ```
 #[derive(Drop)]
 pub struct Listing<H: Runtime, J: Job = FileJob<H>> {
     task: FileTask<List, H>,
@@ -99,6 +120,7 @@ impl<H: Runtime, J: Job + Carries<CallJob<List, H>>> Listing<H, J> {
     pub(crate) fn new(files: &Files<H, J>, call: Result<List, AllocError>) -> Listing<H, J>
         ensures asked { IfOk call (λ call. IsSomeAnd result.task.asked (λ asked. asked.value ≡ call)) }
         ensures refused { IfErr call (λ _. IsNone result.task.asked) }
+        ensures answered { IsNone result.task.task → IsSomeAnd result.task.refused (λ answer. IsErr answer) }
     {
         Listing {
             task: files.begin(call),
@@ -110,6 +132,7 @@ impl<H: Runtime, J: Job + Carries<CallJob<List, H>>> Listing<H, J> {
 impl<H: Runtime, J: Job> Future for Listing<H, J> {
     ghost use Rattle.futures.specs.Poll.{IfReady, OnPending};
     ghost use Rattle.futures.specs.Task.{Covers, Keeps};
+    ghost use Rattle.futures.specs.declared.task.Poll.{Poll};
 
     type Output = io::Result<Entries<H, J>>;
 
@@ -118,6 +141,10 @@ impl<H: Runtime, J: Job> Future for Listing<H, J> {
 
     fn poll(&mut self, cx: &mut Context<'_>) -> Poll<io::Result<Entries<H, J>>>
         ensures idle { IfReady result (λ r. IfOk r (λ listed. IsAt Idle listed.owner.owner.place)) }
+        ensures refused { IfSome self.old.task.refused (λ answer. IfErr answer (λ why. result ≡ Poll.Ready (Err why))) }
+        ensures behind { IsNone self.old.task.task → IsNone self.old.task.refused → result ≡ Poll.Pending }
+        ensures taken { IfReady result (λ _. IsNone self.new.task.task × IsNone self.new.task.refused) }
+        ensures asked { self.new.task.asked ≡ self.old.task.asked }
         ensures waits { OnPending result (IsSome self.new.task.task ↔ IsSome self.old.task.task) }
         ensures seated { OnPending result (IfSome self.new.task.task (λ task. IsSome task.asked)) }
         ensures registered { OnPending result

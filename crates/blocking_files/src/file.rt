@@ -1,5 +1,5 @@
 //! A file that is lent to a pool.
-ghost use Rattle.std.specs.Prelude.{◌≡◌, ◌+◌, ◌<◌, ◌≤◌, length, IfOk, IfSome};
+ghost use Rattle.std.specs.Prelude.{◌≡◌, ◌+◌, ◌<◌, ◌≤◌, length, IfOk, IfSome, IsErr, IsNone, IsSomeAnd};
 ghost use Rattle.std.specs.Arc.{arc_value};
 ghost use Rattle.futures.specs.Poll.{IfReady, OnPending};
 ghost use Rattle.futures.specs.Task.{IsArmed, Keeps};
@@ -25,6 +25,14 @@ use std::sync::Arc;
 /// that all was written, and not that the disk has it: that is [`File::sync_all`].
 ///
 /// A job reads ahead. So a write, or a seek from where the file is, goes on from further than what was read: seek from the start instead.
+///
+/// ```rust
+/// let mut file = block_on(&rt, files.open_with(how, path))??;
+/// block_on(&rt, file.write_all(b"oaks and "))??;
+/// block_on(&rt, file.flush())??;
+/// let place = block_on(&rt, file.seek(SeekFrom::Start(5)))??;
+/// block_on(&rt, file.read_exact(&mut three))??;
+/// ```
 #[derive(Drop)]
 pub struct File<H: Runtime, J: Job = FileJob<H>> {
     owner: OpenReader<Shared, H, J>,
@@ -57,10 +65,16 @@ impl<H: Runtime, J: Job> File<H, J> {
     }
 
     /// What the system knows of the file. It doesn't know of what was written and not flushed.
+    ///
+    /// ```rust
+    /// block_on(&rt, file.flush())??;
+    /// let length = block_on(&rt, file.metadata())??.len();
+    /// ```
     pub fn metadata(&self) -> FileTask<Look, H>
     where
         J: Carries<CallJob<Look, H>>,
-        ensures { IfSome result.asked (λ asked. IsFileLook (arc_value self.now.file) asked.value.what) }
+        ensures asked { IfSome result.asked (λ asked. IsFileLook (arc_value self.now.file) asked.value.what) }
+        ensures answered { IsNone result.task → IsSomeAnd result.refused (λ answer. IsErr answer) }
     {
         self.files
             .look(Arc::try_clone(&self.file).map(LookAt::File))
@@ -69,10 +83,14 @@ impl<H: Runtime, J: Job> File<H, J> {
 
 // What is changed of an open file.
 impl<H: Runtime, J: Job + Carries<CallJob<Change, H>> + Carries<WriteJob<Shared, H>>> File<H, J> {
-    ghost use Rattle.std.specs.Prelude.{IsNone, IsSomeAnd};
     ghost use Rattle.blocking_files.specs.Asked.{IsSyncAll, IsSyncData, IsSetLen};
 
     /// Flushes, and then has on the disk what was written and what the system knows of the file. A flush alone doesn't.
+    ///
+    /// ```rust
+    /// block_on(&rt, file.write_all(b"and firs\n"))??;
+    /// block_on(&rt, file.sync_all())?
+    /// ```
     pub fn sync_all<'a>(&'a mut self) -> Changing<'a, H, J>
         ensures file { result.file.ghost_name ≡ self.entry.ghost_name }
         ensures asked { IsSomeAnd result.what (λ what. IfOk what (IsSyncAll (arc_value self.old.file))) }
@@ -83,6 +101,10 @@ impl<H: Runtime, J: Job + Carries<CallJob<Change, H>> + Carries<WriteJob<Shared,
     }
 
     /// Flushes, and then has on the disk what was written. A flush alone doesn't.
+    ///
+    /// ```rust
+    /// block_on(&rt, file.sync_data())??;
+    /// ```
     pub fn sync_data<'a>(&'a mut self) -> Changing<'a, H, J>
         ensures file { result.file.ghost_name ≡ self.entry.ghost_name }
         ensures asked { IsSomeAnd result.what (λ what. IfOk what (IsSyncData (arc_value self.old.file))) }
@@ -93,6 +115,10 @@ impl<H: Runtime, J: Job + Carries<CallJob<Change, H>> + Carries<WriteJob<Shared,
     }
 
     /// Flushes, and then has the file cut or extended with zeros to so many bytes. The position stays. It doesn't mean that the disk has it.
+    ///
+    /// ```rust
+    /// block_on(&rt, file.set_len(4))??;
+    /// ```
     pub fn set_len<'a>(&'a mut self, size: u64) -> Changing<'a, H, J>
         ensures file { result.file.ghost_name ≡ self.entry.ghost_name }
         ensures asked { IsSomeAnd result.what (λ what. IfOk what (IsSetLen (arc_value self.old.file) size)) }
@@ -105,7 +131,7 @@ impl<H: Runtime, J: Job + Carries<CallJob<Change, H>> + Carries<WriteJob<Shared,
 
 impl<H: Runtime, J: Job + Carries<ReadJob<Shared, H>>> AsyncRead for File<H, J> {
     ghost use Rattle.blocking_core.specs.declared.unblock.PollCall.TheVariants.{Read as ReadCall};
-    ghost use Rattle.blocking_unblock.specs.Owners.{Follows, KeepsRefused, crossed_at, crossed_before, reply_of_count};
+    ghost use Rattle.blocking_unblock.specs.Owners.{Follows, KeepsAtOnce, KeepsRefused, crossed_at, crossed_before, reply_of_count};
 
     ghost closed = { λ _. ⊥ };
 
@@ -113,6 +139,9 @@ impl<H: Runtime, J: Job + Carries<ReadJob<Shared, H>>> AsyncRead for File<H, J> 
     fn poll_read(&mut self, cx: &mut Context<'_>, buf: &mut [u8]) -> Poll<Result<usize, IoFault>>
         ensures refused { KeepsRefused self.old.owner.owner.place (reply_of_count result) self.new.owner.owner.place }
         ensures follows { Follows (ReadCall (length buf.old)) self.old.owner.owner.place (reply_of_count result) self.new.owner.owner.place }
+        ensures at_once { KeepsAtOnce (ReadCall (length buf.old)) self.old.owner.owner.place self.new.owner.owner.place }
+        ensures rest { (self.new.owner.owner.capacity ≡ self.old.owner.owner.capacity)
+            × (self.new.owner.owner.executor ≡ self.old.owner.owner.executor) }
         ensures count { IfReady result (λ r. IfOk r (λ n. n ≤ length buf.old)) }
         ensures crossed { IfReady result (λ r. IfOk r (λ n. 0 < n
             → crossed_at self.new.owner.owner.place ≡ crossed_before (ReadCall (length buf.old)) self.old.owner.owner.place + n)) }
@@ -126,9 +155,9 @@ impl<H: Runtime, J: Job + Carries<ReadJob<Shared, H>>> AsyncRead for File<H, J> 
 }
 
 impl<H: Runtime, J: Job + Carries<WriteJob<Shared, H>>> AsyncWrite for File<H, J> {
-    ghost use Rattle.std.specs.Prelude.{IsErr};
     ghost use Rattle.blocking_core.specs.declared.unblock.PollCall.TheVariants.{Write as WriteCall, Flush as FlushCall};
-    ghost use Rattle.blocking_unblock.specs.Owners.{Follows, KeepsRefused, crossed_at, crossed_before, reply_of_count, reply_of_done};
+    ghost use Rattle.blocking_unblock.specs.Owners.{Follows, KeepsAtOnce, KeepsRefused, crossed_at, crossed_before, reply_of_count, reply_of_done};
+    ghost use Rattle.blocking_anytime.specs.Closes.{IsUnclosed};
 
     ghost closed = { λ _. ⊥ };
 
@@ -136,6 +165,9 @@ impl<H: Runtime, J: Job + Carries<WriteJob<Shared, H>>> AsyncWrite for File<H, J
     fn poll_write(&mut self, cx: &mut Context<'_>, bytes: &[u8]) -> Poll<Result<usize, IoFault>>
         ensures refused { KeepsRefused self.old.owner.owner.place (reply_of_count result) self.new.owner.owner.place }
         ensures follows { Follows (WriteCall (length bytes.now)) self.old.owner.owner.place (reply_of_count result) self.new.owner.owner.place }
+        ensures at_once { KeepsAtOnce (WriteCall (length bytes.now)) self.old.owner.owner.place self.new.owner.owner.place }
+        ensures rest { (self.new.owner.owner.capacity ≡ self.old.owner.owner.capacity)
+            × (self.new.owner.owner.executor ≡ self.old.owner.owner.executor) }
         ensures count { IfReady result (λ r. IfOk r (λ n. n ≤ length bytes.now)) }
         ensures crossed { IfReady result (λ r. IfOk r (λ n. 0 < n
             → crossed_at self.new.owner.owner.place ≡ crossed_before (WriteCall (length bytes.now)) self.old.owner.owner.place + n)) }
@@ -149,6 +181,9 @@ impl<H: Runtime, J: Job + Carries<WriteJob<Shared, H>>> AsyncWrite for File<H, J
     /// Waits until all that was taken is written, or answers why it isn't. It doesn't mean that the disk has it: that is [`File::sync_all`].
     fn poll_flush(&mut self, cx: &mut Context<'_>) -> Poll<Result<(), IoFault>>
         ensures follows { Follows FlushCall self.old.owner.owner.place (reply_of_done result) self.new.owner.owner.place }
+        ensures at_once { KeepsAtOnce FlushCall self.old.owner.owner.place self.new.owner.owner.place }
+        ensures rest { (self.new.owner.owner.capacity ≡ self.old.owner.owner.capacity)
+            × (self.new.owner.owner.executor ≡ self.old.owner.owner.executor) }
         ensures file { self.new.file ≡ self.old.file }
         ensures armed { OnPending result (IsArmed cx.new) }
         ensures kept { Keeps cx.old cx.new }
@@ -160,6 +195,11 @@ impl<H: Runtime, J: Job + Carries<WriteJob<Shared, H>>> AsyncWrite for File<H, J
     /// drop closes a file.
     fn poll_close(&mut self, cx: &mut Context<'_>) -> Poll<Result<(), IoFault>>
         ensures closed { IfReady result (λ r. IsErr r) }
+        ensures flushed { (flushed : _) × Follows FlushCall self.old.owner.owner.place (reply_of_done flushed) self.new.owner.owner.place
+            × IsUnclosed flushed result }
+        ensures at_once { KeepsAtOnce FlushCall self.old.owner.owner.place self.new.owner.owner.place }
+        ensures rest { (self.new.owner.owner.capacity ≡ self.old.owner.owner.capacity)
+            × (self.new.owner.owner.executor ≡ self.old.owner.owner.executor) }
         ensures file { self.new.file ≡ self.old.file }
         ensures armed { OnPending result (IsArmed cx.new) }
         ensures kept { Keeps cx.old cx.new }
@@ -179,6 +219,8 @@ impl<H: Runtime, J: Job + Carries<SeekJob<Shared, H>>> AsyncSeek for File<H, J> 
     fn poll_seek(&mut self, cx: &mut Context<'_>, to: SeekFrom) -> Poll<Result<u64, IoFault>>
         ensures refused { KeepsRefused self.old.owner.owner.place (reply_of_seek result) self.new.owner.owner.place }
         ensures follows { Follows (SeekCall (position_of to)) self.old.owner.owner.place (reply_of_seek result) self.new.owner.owner.place }
+        ensures rest { (self.new.owner.owner.capacity ≡ self.old.owner.owner.capacity)
+            × (self.new.owner.owner.executor ≡ self.old.owner.owner.executor) }
         ensures file { self.new.file ≡ self.old.file }
         ensures armed { OnPending result (IsArmed cx.new) }
         ensures kept { Keeps cx.old cx.new }

@@ -1,5 +1,5 @@
 //! A pool for files.
-ghost use Rattle.std.specs.Prelude.{◌≡◌, true, IfOk, IfErr, IfSome, IsNone, IsSomeAnd};
+ghost use Rattle.std.specs.Prelude.{◌≡◌, true, IfOk, IfErr, IfSome, IsErr, IsNone, IsSomeAnd};
 ghost use Rattle.std.specs.Fs.{new_options, with_read, with_write, with_create, with_truncate};
 ghost use Rattle.blocking_files.specs.Asked.{IsPath, IsWrite, IsRename, IsCreateDir, IsCreateDirAll, IsRemoveFile, IsRemoveDir, IsRemoveDirAll, IsPathLook, IsLinkLook};
 
@@ -19,6 +19,12 @@ use std::path::AsPath;
 /// A pool for files: who has a share of it makes calls on paths, and opens files.
 ///
 /// `J` is the type of the pool's jobs. A program's own will do that carries what its calls ask for.
+///
+/// ```rust
+/// let files = Files::new(rt, system, Some("4"))?;
+/// block_on(&rt, files.write(&first, "oaks\n"))??;
+/// let length = block_on(&rt, files.metadata(&first))??.len();
+/// ```
 #[derive(Drop)]
 pub struct Files<H: Runtime, J: Job = FileJob<H>> {
     executor: Executor<J, H>,
@@ -31,7 +37,14 @@ impl<H: Host> Files<H> {
     /// executor; None is the limit of 500.
     ///
     /// `Memory` where there was none for it, and `NoWorker` where a thread couldn't be had.
-    pub fn new(rt: H, system: HostRuntime, setting: Option<&str>) -> Result<Files<H>, Refusal> {
+    ///
+    /// ```rust
+    /// let files = Files::new(rt, system, Some("4"))?;
+    /// notes(rt, &files, folder)
+    /// ```
+    pub fn new(rt: H, system: HostRuntime, setting: Option<&str>) -> Result<Files<H>, Refusal>
+        ensures { IfOk result (λ files. files.executor.client ≡ 0) }
+    {
         let executor = Executor::new(rt, setting)?;
         Ok(Files { executor, system })
     }
@@ -39,6 +52,11 @@ impl<H: Host> Files<H> {
 
 impl<H: Runtime, J: Job> Files<H, J> {
     /// Files over a pool that is there, such as one that has other jobs, too. Their jobs are those of this share's client.
+    ///
+    /// ```rust
+    /// let executor: Executor<FileJob<H>, H> = Executor::new(rt, Some("2"))?;
+    /// let files = Files::over(executor, system);
+    /// ```
     pub fn over(executor: Executor<J, H>, system: HostRuntime) -> Files<H, J>
         ensures { result.executor ≡ executor }
     {
@@ -46,6 +64,11 @@ impl<H: Runtime, J: Job> Files<H, J> {
     }
 
     /// One more share of the same pool, for the same client.
+    ///
+    /// ```rust
+    /// let share = files.try_clone()?;
+    /// open_and_use(rt, &share, path)
+    /// ```
     pub fn try_clone(&self) -> Result<Files<H, J>, AllocError>
         ensures { IfOk result (λ share. share.executor.client ≡ self.now.executor.client) }
     {
@@ -56,6 +79,10 @@ impl<H: Runtime, J: Job> Files<H, J> {
     }
 
     /// The pool, as what is set and asked of one takes it.
+    ///
+    /// ```rust
+    /// set_max_blocking_threads(files.executor(), 1);
+    /// ```
     pub fn executor(&self) -> &Executor<J, H>
         ensures { result.now ≡ self.now.executor }
     {
@@ -81,6 +108,7 @@ impl<H: Runtime, J: Job> Files<H, J> {
         J: Carries<CallJob<F, H>>,
         ensures asked { IfOk call (λ call. IsSomeAnd result.asked (λ asked. asked.value ≡ call)) }
         ensures refused { IfErr call (λ _. IsNone result.asked) }
+        ensures answered { IsNone result.task → IsSomeAnd result.refused (λ answer. IsErr answer) }
     {
         FileTask::begin(&self.executor, call)
     }
@@ -89,9 +117,16 @@ impl<H: Runtime, J: Job> Files<H, J> {
 // Files that are opened.
 impl<H: Runtime, J: Job + Carries<CallJob<Open, H>>> Files<H, J> {
     /// Opens a file to be read.
+    ///
+    /// ```rust
+    /// let mut file = block_on(&rt, files.open(path))??;
+    /// let mut three = [0u8; 3];
+    /// block_on(&rt, file.read_exact(&mut three))??;
+    /// ```
     pub fn open<P: AsPath>(&self, path: P) -> Opening<H, J>
-        ensures { IfSome result.task.asked (λ asked. IsPath (P.path_text path) asked.value.path
+        ensures asked { IfSome result.task.asked (λ asked. IsPath (P.path_text path) asked.value.path
             × (asked.value.how ≡ with_read new_options true)) }
+        ensures answered { IsNone result.task.task → IsSomeAnd result.task.refused (λ answer. IsErr answer) }
     {
         let mut how = OpenOptions::new();
         how.read(true);
@@ -99,9 +134,16 @@ impl<H: Runtime, J: Job + Carries<CallJob<Open, H>>> Files<H, J> {
     }
 
     /// Opens a file to be written, which is empty then. One that isn't there is made.
+    ///
+    /// ```rust
+    /// let mut file = block_on(&rt, files.create(path))??;
+    /// block_on(&rt, file.write_all(b"pines "))??;
+    /// block_on(&rt, file.sync_all())?
+    /// ```
     pub fn create<P: AsPath>(&self, path: P) -> Opening<H, J>
-        ensures { IfSome result.task.asked (λ asked. IsPath (P.path_text path) asked.value.path
+        ensures asked { IfSome result.task.asked (λ asked. IsPath (P.path_text path) asked.value.path
             × (asked.value.how ≡ with_truncate (with_create (with_write new_options true) true) true)) }
+        ensures answered { IsNone result.task.task → IsSomeAnd result.task.refused (λ answer. IsErr answer) }
     {
         let mut how = OpenOptions::new();
         how.write(true).create(true).truncate(true);
@@ -109,8 +151,15 @@ impl<H: Runtime, J: Job + Carries<CallJob<Open, H>>> Files<H, J> {
     }
 
     /// Opens a file as the options say.
+    ///
+    /// ```rust
+    /// let mut how = OpenOptions::new();
+    /// how.read(true).write(true).create(true);
+    /// let mut file = block_on(&rt, files.open_with(how, path))??;
+    /// ```
     pub fn open_with<P: AsPath>(&self, how: OpenOptions, path: P) -> Opening<H, J>
-        ensures { IfSome result.task.asked (λ asked. IsPath (P.path_text path) asked.value.path × (asked.value.how ≡ how)) }
+        ensures asked { IfSome result.task.asked (λ asked. IsPath (P.path_text path) asked.value.path × (asked.value.how ≡ how)) }
+        ensures answered { IsNone result.task.task → IsSomeAnd result.task.refused (λ answer. IsErr answer) }
     {
         let system = self.system;
         let call = self.text(&path).map(|path| Open { system, how, path });
@@ -121,20 +170,30 @@ impl<H: Runtime, J: Job + Carries<CallJob<Open, H>>> Files<H, J> {
 // Files that are read at once.
 impl<H: Runtime, J: Job> Files<H, J> {
     /// All bytes of a file.
+    ///
+    /// ```rust
+    /// let bytes = block_on(&rt, files.read(path))??;
+    /// ```
     pub fn read<P: AsPath>(&self, path: P) -> FileTask<ReadBytes, H>
     where
         J: Carries<CallJob<ReadBytes, H>>,
-        ensures { IfSome result.asked (λ asked. IsPath (P.path_text path) asked.value.path) }
+        ensures asked { IfSome result.asked (λ asked. IsPath (P.path_text path) asked.value.path) }
+        ensures answered { IsNone result.task → IsSomeAnd result.refused (λ answer. IsErr answer) }
     {
         let system = self.system;
         self.begin(self.text(&path).map(|path| ReadBytes { system, path }))
     }
 
     /// All text of a file. Where it isn't UTF-8 the answer is an error of the kind `InvalidData`.
+    ///
+    /// ```rust
+    /// let text = block_on(&rt, files.read_to_string(path))??;
+    /// ```
     pub fn read_to_string<P: AsPath>(&self, path: P) -> FileTask<ReadText, H>
     where
         J: Carries<CallJob<ReadText, H>>,
-        ensures { IfSome result.asked (λ asked. IsPath (P.path_text path) asked.value.path) }
+        ensures asked { IfSome result.asked (λ asked. IsPath (P.path_text path) asked.value.path) }
+        ensures answered { IsNone result.task → IsSomeAnd result.refused (λ answer. IsErr answer) }
     {
         let system = self.system;
         self.begin(self.text(&path).map(|path| ReadText { system, path }))
@@ -146,21 +205,32 @@ impl<H: Runtime, J: Job + Carries<CallJob<Look, H>>> Files<H, J> {
     pub(crate) fn look(&self, what: Result<LookAt, AllocError>) -> FileTask<Look, H>
         ensures asked { IfOk what (λ what. IsSomeAnd result.asked (λ asked. asked.value.what ≡ what)) }
         ensures refused { IfErr what (λ _. IsNone result.asked) }
+        ensures answered { IsNone result.task → IsSomeAnd result.refused (λ answer. IsErr answer) }
     {
         let system = self.system;
         self.begin(what.map(|what| Look { system, what }))
     }
 
     /// What the system knows of what has this path, behind all links.
+    ///
+    /// ```rust
+    /// let length = block_on(&rt, files.metadata(path))??.len();
+    /// ```
     pub fn metadata<P: AsPath>(&self, path: P) -> FileTask<Look, H>
-        ensures { IfSome result.asked (λ asked. IsPathLook (P.path_text path) asked.value.what) }
+        ensures asked { IfSome result.asked (λ asked. IsPathLook (P.path_text path) asked.value.what) }
+        ensures answered { IsNone result.task → IsSomeAnd result.refused (λ answer. IsErr answer) }
     {
         self.look(self.text(&path).map(LookAt::Path))
     }
 
     /// What the system knows of what has this path, be it a link.
+    ///
+    /// ```rust
+    /// let link_is = block_on(&rt, files.symlink_metadata(link))??.is_symlink();
+    /// ```
     pub fn symlink_metadata<P: AsPath>(&self, path: P) -> FileTask<Look, H>
-        ensures { IfSome result.asked (λ asked. IsLinkLook (P.path_text path) asked.value.what) }
+        ensures asked { IfSome result.asked (λ asked. IsLinkLook (P.path_text path) asked.value.what) }
+        ensures answered { IsNone result.task → IsSomeAnd result.refused (λ answer. IsErr answer) }
     {
         self.look(self.text(&path).map(LookAt::Link))
     }
@@ -171,6 +241,7 @@ impl<H: Runtime, J: Job + Carries<CallJob<Change, H>>> Files<H, J> {
     pub(crate) fn change(&self, what: Result<Changes, AllocError>) -> FileTask<Change, H>
         ensures asked { IfOk what (λ what. IsSomeAnd result.asked (λ asked. asked.value.what ≡ what)) }
         ensures refused { IfErr what (λ _. IsNone result.asked) }
+        ensures answered { IsNone result.task → IsSomeAnd result.refused (λ answer. IsErr answer) }
     {
         let system = self.system;
         self.begin(what.map(|what| Change { system, what }))
@@ -178,8 +249,13 @@ impl<H: Runtime, J: Job + Carries<CallJob<Change, H>>> Files<H, J> {
 
     /// Has a file with these bytes alone, which are copied for that. One that isn't there is made. That they are written doesn't mean that the
     /// disk has them: [`File::sync_all`](crate::File::sync_all) has them there. Where it fails the file may have a part of them.
+    ///
+    /// ```rust
+    /// block_on(&rt, files.write(path, "oaks"))??;
+    /// ```
     pub fn write<P: AsPath, C: AsBytes + Drop>(&self, path: P, bytes: C) -> FileTask<Change, H>
-        ensures { IfSome result.asked (λ asked. IsWrite (P.path_text path) (C.bytes bytes) asked.value.what) }
+        ensures asked { IfSome result.asked (λ asked. IsWrite (P.path_text path) (C.bytes bytes) asked.value.what) }
+        ensures answered { IsNone result.task → IsSomeAnd result.refused (λ answer. IsErr answer) }
     {
         self.change(self.to_write(&path, &bytes))
     }
@@ -193,8 +269,13 @@ impl<H: Runtime, J: Job + Carries<CallJob<Change, H>>> Files<H, J> {
     }
 
     /// Has what has the first path have the second, in place of what had it. Both are in one file system.
+    ///
+    /// ```rust
+    /// block_on(&rt, files.rename(path, other))??;
+    /// ```
     pub fn rename<P: AsPath, Q: AsPath>(&self, from: P, to: Q) -> FileTask<Change, H>
-        ensures { IfSome result.asked (λ asked. IsRename (P.path_text from) (Q.path_text to) asked.value.what) }
+        ensures asked { IfSome result.asked (λ asked. IsRename (P.path_text from) (Q.path_text to) asked.value.what) }
+        ensures answered { IsNone result.task → IsSomeAnd result.refused (λ answer. IsErr answer) }
     {
         self.change(self.to_rename(&from, &to))
     }
@@ -206,36 +287,61 @@ impl<H: Runtime, J: Job + Carries<CallJob<Change, H>>> Files<H, J> {
     }
 
     /// Makes a directory. What it is to stand in is there.
+    ///
+    /// ```rust
+    /// block_on(&rt, files.create_dir(deep))??;
+    /// ```
     pub fn create_dir<P: AsPath>(&self, path: P) -> FileTask<Change, H>
-        ensures { IfSome result.asked (λ asked. IsCreateDir (P.path_text path) asked.value.what) }
+        ensures asked { IfSome result.asked (λ asked. IsCreateDir (P.path_text path) asked.value.what) }
+        ensures answered { IsNone result.task → IsSomeAnd result.refused (λ answer. IsErr answer) }
     {
         self.change(self.text(&path).map(Changes::CreateDir))
     }
 
     /// Makes a directory, and all that it is to stand in. One that is there is left as it is. Where it fails, what was made is left.
+    ///
+    /// ```rust
+    /// block_on(&rt, files.create_dir_all(folder))??;
+    /// ```
     pub fn create_dir_all<P: AsPath>(&self, path: P) -> FileTask<Change, H>
-        ensures { IfSome result.asked (λ asked. IsCreateDirAll (P.path_text path) asked.value.what) }
+        ensures asked { IfSome result.asked (λ asked. IsCreateDirAll (P.path_text path) asked.value.what) }
+        ensures answered { IsNone result.task → IsSomeAnd result.refused (λ answer. IsErr answer) }
     {
         self.change(self.text(&path).map(Changes::CreateDirAll))
     }
 
     /// Removes a file, or a link.
+    ///
+    /// ```rust
+    /// block_on(&rt, files.remove_file(other))??;
+    /// ```
     pub fn remove_file<P: AsPath>(&self, path: P) -> FileTask<Change, H>
-        ensures { IfSome result.asked (λ asked. IsRemoveFile (P.path_text path) asked.value.what) }
+        ensures asked { IfSome result.asked (λ asked. IsRemoveFile (P.path_text path) asked.value.what) }
+        ensures answered { IsNone result.task → IsSomeAnd result.refused (λ answer. IsErr answer) }
     {
         self.change(self.text(&path).map(Changes::RemoveFile))
     }
 
     /// Removes an empty directory.
+    ///
+    /// ```rust
+    /// block_on(&rt, files.remove_dir(deep))??;
+    /// ```
     pub fn remove_dir<P: AsPath>(&self, path: P) -> FileTask<Change, H>
-        ensures { IfSome result.asked (λ asked. IsRemoveDir (P.path_text path) asked.value.what) }
+        ensures asked { IfSome result.asked (λ asked. IsRemoveDir (P.path_text path) asked.value.what) }
+        ensures answered { IsNone result.task → IsSomeAnd result.refused (λ answer. IsErr answer) }
     {
         self.change(self.text(&path).map(Changes::RemoveDir))
     }
 
     /// Removes a directory with all that is in it. It follows no link. Where it fails, a part of it may be gone.
+    ///
+    /// ```rust
+    /// block_on(&rt, files.remove_dir_all(outer))??;
+    /// ```
     pub fn remove_dir_all<P: AsPath>(&self, path: P) -> FileTask<Change, H>
-        ensures { IfSome result.asked (λ asked. IsRemoveDirAll (P.path_text path) asked.value.what) }
+        ensures asked { IfSome result.asked (λ asked. IsRemoveDirAll (P.path_text path) asked.value.what) }
+        ensures answered { IsNone result.task → IsSomeAnd result.refused (λ answer. IsErr answer) }
     {
         self.change(self.text(&path).map(Changes::RemoveDirAll))
     }
@@ -244,10 +350,16 @@ impl<H: Runtime, J: Job + Carries<CallJob<Change, H>>> Files<H, J> {
 // Directories that are read, and files that are copied.
 impl<H: Runtime, J: Job> Files<H, J> {
     /// The entries of a directory, once it is opened.
+    ///
+    /// ```rust
+    /// let mut entries = block_on(&rt, files.read_dir(folder))??;
+    /// let next = block_on(&rt, entries.next())?;
+    /// ```
     pub fn read_dir<P: AsPath>(&self, path: P) -> Listing<H, J>
     where
         J: Carries<CallJob<List, H>>,
-        ensures { IfSome result.task.asked (λ asked. IsPath (P.path_text path) asked.value.path) }
+        ensures asked { IfSome result.task.asked (λ asked. IsPath (P.path_text path) asked.value.path) }
+        ensures answered { IsNone result.task.task → IsSomeAnd result.task.refused (λ answer. IsErr answer) }
     {
         let system = self.system;
         let call = self.text(&path).map(|path| List { system, path });
@@ -257,11 +369,16 @@ impl<H: Runtime, J: Job> Files<H, J> {
     /// Copies the bytes of a file to another, and its permissions. The other is empty before that, and one that isn't there is made. Where
     /// both are one file the answer is an error of the kind `InvalidInput`, and the file stays as it is. Once it is ready all is written and
     /// flushed, which doesn't mean that the disk has it. Where it fails, or its future is dropped, the other may have a part of the bytes.
+    ///
+    /// ```rust
+    /// let copied = block_on(&rt, files.copy(from, to))??;
+    /// ```
     pub fn copy<P: AsPath, Q: AsPath>(&self, from: P, to: Q) -> Copying<H, J>
     where
         J: Carries<CallJob<OpenBoth, H>>,
-        ensures { IfSome result.task.asked (λ asked. IsPath (P.path_text from) asked.value.from
+        ensures asked { IfSome result.task.asked (λ asked. IsPath (P.path_text from) asked.value.from
             × IsPath (Q.path_text to) asked.value.to) }
+        ensures answered { IsNone result.task.task → IsSomeAnd result.task.refused (λ answer. IsErr answer) }
     {
         Copying::new(self, self.to_copy(&from, &to))
     }

@@ -8,6 +8,11 @@ use std::fs::{DirEntry, ReadDir};
 use std::io;
 
 /// The jobs of a pool of files.
+///
+/// ```rust
+/// let executor: Executor<FileJob<H>, H> = Executor::new(rt, Some("2"))?;
+/// let files = Files::over(executor, system);
+/// ```
 #[derive(Drop)]
 pub enum FileJob<H: Runtime> {
     /// That of a call that opens a file.

@@ -1,5 +1,5 @@
 //! A file that is being opened.
-ghost use Rattle.std.specs.Prelude.{◌≡◌, ◌↔◌, IfOk, IfErr, IfSome, IsNone, IsSome, IsSomeAnd};
+ghost use Rattle.std.specs.Prelude.{◌≡◌, ◌↔◌, Err, IfOk, IfErr, IfSome, IsErr, IsNone, IsSome, IsSomeAnd};
 ghost use Rattle.blocking_core.specs.declared.unblock.State.TheVariants.{Idle};
 ghost use Rattle.blocking_unblock.specs.Owners.{IsAt};
 
@@ -16,6 +16,11 @@ use std::io;
 use std::io::ErrorKind;
 
 /// A file that is being opened: a future of it. It may be polled at any time; behind its answer it is pending for good.
+///
+/// ```rust
+/// let opening = files.open(path);
+/// let mut file = block_on(&rt, opening)??;
+/// ```
 #[derive(Drop)]
 pub struct Opening<H: Runtime, J: Job = FileJob<H>> {
     task: FileTask<Open, H>,
@@ -41,6 +46,7 @@ impl<H: Runtime, J: Job + Carries<CallJob<Open, H>>> Opening<H, J> {
     pub(crate) fn new(files: &Files<H, J>, call: Result<Open, AllocError>) -> Opening<H, J>
         ensures asked { IfOk call (λ call. IsSomeAnd result.task.asked (λ asked. asked.value ≡ call)) }
         ensures refused { IfErr call (λ _. IsNone result.task.asked) }
+        ensures answered { IsNone result.task.task → IsSomeAnd result.task.refused (λ answer. IsErr answer) }
     {
         Opening {
             task: files.begin(call),
@@ -52,6 +58,7 @@ impl<H: Runtime, J: Job + Carries<CallJob<Open, H>>> Opening<H, J> {
 impl<H: Runtime, J: Job> Future for Opening<H, J> {
     ghost use Rattle.futures.specs.Poll.{IfReady, OnPending};
     ghost use Rattle.futures.specs.Task.{Covers, Keeps};
+    ghost use Rattle.futures.specs.declared.task.Poll.{Poll};
 
     type Output = io::Result<File<H, J>>;
 
@@ -60,6 +67,10 @@ impl<H: Runtime, J: Job> Future for Opening<H, J> {
 
     fn poll(&mut self, cx: &mut Context<'_>) -> Poll<io::Result<File<H, J>>>
         ensures idle { IfReady result (λ r. IfOk r (λ file. IsAt Idle file.owner.owner.place)) }
+        ensures refused { IfSome self.old.task.refused (λ answer. IfErr answer (λ why. result ≡ Poll.Ready (Err why))) }
+        ensures behind { IsNone self.old.task.task → IsNone self.old.task.refused → result ≡ Poll.Pending }
+        ensures taken { IfReady result (λ _. IsNone self.new.task.task × IsNone self.new.task.refused) }
+        ensures asked { self.new.task.asked ≡ self.old.task.asked }
         ensures waits { OnPending result (IsSome self.new.task.task ↔ IsSome self.old.task.task) }
         ensures seated { OnPending result (IfSome self.new.task.task (λ task. IsSome task.asked)) }
         ensures registered { OnPending result

@@ -15,6 +15,12 @@ use std::snapshot::Snapshot;
 ///
 /// Where the call was refused, the answer is that refusal as an error of the system, and nothing was done. Dropping the future gives the call
 /// up: one that wasn't begun need not be made, and one that runs goes on.
+///
+/// ```rust
+/// let bytes = files.read(path);
+/// let text = files.read_to_string(path);
+/// Ok((block_on(&rt, bytes)??, block_on(&rt, text)??, length))
+/// ```
 #[derive(Drop)]
 pub struct FileTask<F: Call<Out: Drop> + Drop, H: Runtime> {
     // The call, until it was answered.
@@ -27,6 +33,7 @@ pub struct FileTask<F: Call<Out: Drop> + Drop, H: Runtime> {
     asked: Option<Snapshot<F>>,
     ghost untaken: { ForSome task (λ task. task.is_taken ≡ false) },
     ghost one: { ForSome refused (λ _. is_some task ≡ false) },
+    ghost known: { ForSome task (λ _. is_some asked ≡ true) },
 }
 
 impl<F: Call<Out: Drop> + Drop, H: Runtime> FileTask<F, H> {
@@ -57,6 +64,11 @@ impl<F: Call<Out: Drop> + Drop, H: Runtime> FileTask<F, H> {
     }
 
     /// Whether the answer was taken. From then on every poll is pending.
+    ///
+    /// ```rust
+    /// let call = files.symlink_metadata(link);
+    /// let begun = !call.is_taken();
+    /// ```
     pub fn is_taken(&self) -> bool
         ensures { (result ≡ true) ↔ (IsNone self.now.task × IsNone self.now.refused) }
     {
@@ -103,7 +115,9 @@ impl<F: Call<Out: Drop> + Drop, H: Runtime> Future for FileTask<F, H> {
         ensures refused { IfSome self.old.refused (λ answer. result ≡ Poll.Ready answer) }
         ensures behind { IsNone self.old.task → IsNone self.old.refused → result ≡ Poll.Pending }
         ensures value { IsNone self.old.refused → IfReady result (λ out. IsSome self.old.task × F.may_give out) }
+        ensures known { IsNone self.old.refused → IfReady result (λ _. IsSome self.new.asked) }
         ensures taken { IfReady result (λ _. IsNone self.new.task × IsNone self.new.refused) }
+        ensures told { IsNone self.new.refused }
         ensures waits { OnPending result (IsSome self.new.task ↔ IsSome self.old.task) }
         ensures seated { OnPending result (IfSome self.new.task (λ task. IsSome task.asked)) }
         ensures asked { self.new.asked ≡ self.old.asked }

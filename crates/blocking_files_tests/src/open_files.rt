@@ -40,27 +40,30 @@ fn cut<H: Host, J: CarriesFiles<H>>(rt: H, file: &mut File<H, J>) -> io::Result<
     now(&rt, file.sync_all())
 }
 
-// Closes, and moves to the end: how the close failed, and where the end is.
-fn close_and_move<A: AsyncWrite + AsyncSeek, H: Host>(
+// Moves to the end, writes once more, and closes: where the end was, and how the close failed.
+fn move_and_close<A: AsyncWrite + AsyncSeek, H: Host>(
     rt: H,
     file: &mut A,
-) -> io::Result<(ErrorKind, u64)>
+) -> io::Result<(u64, ErrorKind)>
     requires writer { (any : A) → A.AsyncWrite.closed any → ⊥ }
     requires seeker { (any : A) → A.AsyncSeek.closed any → ⊥ }
 {
-    let kind = match block_on(&rt, file.close())? {
-        Ok(()) => ErrorKind::Other,
-        Err(why) => io::Error::from(why).kind(),
-    };
-    Ok((kind, block_on(&rt, file.seek(SeekFrom::End(0)))??))
+    let end = block_on(&rt, file.seek(SeekFrom::End(0)))??;
+    block_on(&rt, file.write_all(b" and firs"))??;
+    match block_on(&rt, file.close())? {
+        Ok(()) => Ok((end, ErrorKind::Other)),
+        Err(why) => Ok((end, io::Error::from(why).kind())),
+    }
 }
 
-// How many bytes a file had before it was cut, what stood in its middle, how its close failed, and where its end is then.
+// How many bytes a file had before it was cut, what stood in its middle, where its end was after the cut and how its close failed, and after
+// that how many bytes it had and where its end was.
 #[derive(Drop)]
 struct Seen {
     length: u64,
     middle: (u64, [u8; 3]),
-    closed: (ErrorKind, u64),
+    closed: (u64, ErrorKind),
+    after: (u64, u64),
 }
 
 fn use_file<H: Host, J: CarriesFiles<H>>(rt: H, file: &mut File<H, J>) -> io::Result<Seen> {
@@ -68,10 +71,14 @@ fn use_file<H: Host, J: CarriesFiles<H>>(rt: H, file: &mut File<H, J>) -> io::Re
     let length = now(&rt, file.metadata())?.len();
     let middle = read_middle(rt, file)?;
     cut(rt, file)?;
+    let closed = move_and_close(rt, file)?;
+    let flushed = now(&rt, file.metadata())?.len();
+    let end = block_on(&rt, file.seek(SeekFrom::End(0)))??;
     Ok(Seen {
         length,
         middle,
-        closed: close_and_move(rt, file)?,
+        closed,
+        after: (flushed, end),
     })
 }
 
@@ -89,8 +96,10 @@ fn open_and_use<H: Host, J: CarriesFiles<H>>(
 // (over a pool of one thread that is there already)
 fn used<H: Host>(rt: H, system: HostRuntime, path: Path<'_>) -> io::Result<Seen> {
     let executor: Executor<FileJob<H>, H> = Executor::new(rt, Some("2"))?;
-    set_max_blocking_threads(&executor, 1);
-    open_and_use(rt, &Files::over(executor, system), path)
+    let files = Files::over(executor, system);
+    set_max_blocking_threads(files.executor(), 1);
+    let share = files.try_clone()?;
+    open_and_use(rt, &share, path)
 }
 
 #[test]
@@ -101,9 +110,13 @@ fn one_file_is_written_moved_read_and_cut(rt: HostRuntime) -> Result<(), Fail> {
     assert_eq!(rt; seen.length, 13);
     assert_eq!(rt; seen.middle.0, 5);
     assert_eq!(rt; seen.middle.1.as_slice(), b"and".as_slice());
-    assert_eq!(rt; seen.closed.0, ErrorKind::Unsupported);
-    assert_eq!(rt; seen.closed.1, 4, "it is open still");
-    assert_eq!(rt; fs::read(&rt, &path)?.as_slice(), b"oaks".as_slice());
+    assert_eq!(rt; seen.closed, (4, ErrorKind::Unsupported));
+    assert_eq!(rt; seen.after.0, 13, "a close flushes");
+    assert_eq!(rt; seen.after.1, 13, "it is open still");
+    assert_eq!(rt;
+        fs::read(&rt, &path)?.as_slice(),
+        b"oaks and firs".as_slice()
+    );
     fs::remove_dir_all(&rt, &folder)?;
     Ok(())
 }
@@ -114,7 +127,8 @@ fn write_to_a_reader<H: Host, J: CarriesFiles<H>>(
     files: &Files<H, J>,
     path: Path<'_>,
 ) -> io::Result<(bool, bool)> {
-    let mut file = now(&rt, files.open(path))?;
+    let opening = files.open(path);
+    let mut file = now(&rt, opening)?;
     block_on(&rt, file.write_all(b"elms"))??;
     let sync_failed = now(&rt, file.sync_all()).is_err();
     let flush_failed = block_on(&rt, file.flush())?.is_err();

@@ -1,7 +1,7 @@
 //! Calls on paths. They are made over any job type that carries them, which costs less to prove, and then over a pool.
 use crate::folder::{folder, now};
-use blocking::Host;
-use blocking_files::{CarriesFiles, Files};
+use blocking::{CallJob, Carries, Host, Job};
+use blocking_files::{CarriesFiles, Change, Files, Look};
 use futures::executor::block_on;
 use futures::{Stream, StreamExt};
 use std::fs::DirEntry;
@@ -28,9 +28,9 @@ fn write_and_read<H: Host, J: CarriesFiles<H>>(
     now(&rt, files.write(path, "oaks"))?;
     now(&rt, files.write(path, "elm"))?;
     let length = now(&rt, files.metadata(path))?.len();
-    let bytes = now(&rt, files.read(path))?;
-    let text = now(&rt, files.read_to_string(path))?;
-    Ok((bytes, text, length))
+    let bytes = files.read(path);
+    let text = files.read_to_string(path);
+    Ok((now(&rt, bytes)?, now(&rt, text)?, length))
 }
 
 // Writes what is no text, renames and removes it: how it fails to be read as text, and to be read under its first name.
@@ -93,14 +93,16 @@ fn make<H: Host, J: CarriesFiles<H>>(
     Ok((nowhere, kind_of(&now(&rt, files.create_dir(deep)))))
 }
 
-// Whether a link is looked at, and whether what it leads to is.
-fn look<H: Host, J: CarriesFiles<H>>(
+// Whether a link is looked at, and whether what it leads to is. (over any job type that carries such a look)
+fn look<H: Host, J: Job + Carries<CallJob<Look, H>>>(
     rt: H,
     files: &Files<H, J>,
     link: Path<'_>,
 ) -> io::Result<(bool, bool)> {
-    let link_is = now(&rt, files.symlink_metadata(link))?.is_symlink();
-    Ok((link_is, now(&rt, files.metadata(link))?.is_dir()))
+    let call = files.symlink_metadata(link);
+    let begun = !call.is_taken();
+    let link_is = now(&rt, call)?.is_symlink();
+    Ok((begun && link_is, now(&rt, files.metadata(link))?.is_dir()))
 }
 
 // How many entries come, of which each is `a` or `link`.
@@ -127,11 +129,12 @@ fn list<H: Host, J: CarriesFiles<H>>(
     files: &Files<H, J>,
     folder: Path<'_>,
 ) -> io::Result<usize> {
-    count(rt, &mut now(&rt, files.read_dir(folder))?)
+    let mut entries = now(&rt, files.read_dir(folder))?;
+    count(rt, &mut entries)
 }
 
-// Removes folders: how that failed for one that isn't empty.
-fn remove<H: Host, J: CarriesFiles<H>>(
+// Removes folders: how that failed for one that isn't empty. (over any job type that carries such a change)
+fn remove<H: Host, J: Job + Carries<CallJob<Change, H>>>(
     rt: H,
     files: &Files<H, J>,
     outer: Path<'_>,
