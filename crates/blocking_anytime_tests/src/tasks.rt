@@ -62,7 +62,18 @@ fn answers_come_of_a_set_that_grows(rt: HostRuntime) -> Result<(), Fail> {
     Ok(())
 }
 
+// (a pair polls each task to its answer and not again, so plain ones are enough)
 fn in_a_pair<J: Job + Carries<CallJob<Double, H>>, H: Host>(
+    rt: H,
+    executor: &Executor<J, H>,
+) -> io::Result<(u64, u64)> {
+    let first = unblock(executor, Double(4))?;
+    let second = unblock(executor, Double(5))?;
+    block_on(&rt, join(first, second))
+}
+
+// The same of tasks that may be polled at any time.
+fn fused_in_a_pair<J: Job + Carries<CallJob<Double, H>>, H: Host>(
     rt: H,
     executor: &Executor<J, H>,
 ) -> io::Result<(u64, u64)> {
@@ -75,6 +86,7 @@ fn in_a_pair<J: Job + Carries<CallJob<Double, H>>, H: Host>(
 fn answers_come_in_a_pair(rt: HostRuntime) -> Result<(), Fail> {
     let pool = pool(rt)?;
     assert_eq!(rt; in_a_pair(rt, &pool)?, (8, 10));
+    assert_eq!(rt; fused_in_a_pair(rt, &pool)?, (8, 10));
     Ok(())
 }
 
