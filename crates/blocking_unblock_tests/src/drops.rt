@@ -41,8 +41,25 @@ pub(crate) enum Way {
     Drops,
     /// It waits for the handle, where that isn't there, and is dropped.
     StopsFirst,
-    /// It waits for the handle for good, and that future is dropped.
-    IntoInner,
+    /// It asks for the handle for good, and that future is dropped at this point.
+    IntoInner(Point),
+}
+
+// (a job that stands in the queue behind another doesn't come to wake its owner)
+const WAYS: [Way; 5] = [
+    Drops,
+    StopsFirst,
+    IntoInner(Point::Unpolled),
+    IntoInner(Point::Waiting),
+    IntoInner(Point::Woken),
+];
+
+// The ways in which the owner may leave of a job that stands so.
+fn ways_of(standing: Standing) -> &'static [Way] {
+    match standing {
+        Inside | Parked => &WAYS,
+        _ => &WAYS[..4],
+    }
 }
 
 // How a job stands, whether then the thread that drops the owner drops the handle, and how many calls of the handle are made, at least and at most,
@@ -148,10 +165,11 @@ impl<S: Lender> Stage<S> {
         }
         let Stage { mock, scene, busy } = self;
         let Scene { owner, gate } = scene;
-        owner.leaves(&mock, way);
+        let comes = owner.leaves(&mock, &gate, way);
         // (another thread may be quick where nothing keeps the job)
-        let is_as_it_must = match row.standing {
-            Parked => true,
+        let is_as_it_must = match (row.standing, way) {
+            (_, IntoInner(Point::Woken)) => comes,
+            (Parked, _) => true,
             _ => (gate.gone() == 1) == row.is_at_once,
         };
         gate.open();
@@ -169,9 +187,9 @@ impl<S: Lender> Stage<S> {
         row: Row,
         (session, least, most): (Call, usize, usize),
     ) -> io::Result<bool> {
-        for way in [Drops, StopsFirst, IntoInner] {
+        for way in ways_of(row.standing) {
             let stage = Stage::new(root, 1_000, NO_FAULTS)?;
-            match stage.leaves(root, session, row, way) {
+            match stage.leaves(root, session, row, *way) {
                 Some(calls) if least <= calls && calls <= most => {}
                 _ => return Ok(false),
             }

@@ -44,8 +44,8 @@ pub(crate) trait Lender: Drop {
     /// What a write of as much as a pipe holds shows.
     fn fills(&mut self, mock: &MockTask) -> Poll<Answer>;
 
-    /// Leaves in this way.
-    fn leaves(self, mock: &MockTask, way: Way);
+    /// Leaves in this way. Whether a future that is dropped then waited, and came to its point.
+    fn leaves(self, mock: &MockTask, gate: &Gate, way: Way) -> bool;
 
     /// Whether a future of this owner comes to a point and is dropped there.
     fn drops(
@@ -301,24 +301,21 @@ where
         mock.enter(|cx| write_once(owner, cx, FIRST))
     }
 
-    fn leaves(self, mock: &MockTask, way: Way) {
+    fn leaves(self, mock: &MockTask, gate: &Gate, way: Way) -> bool {
         let Lent {
             rt: _,
             pool: _,
             mut owner,
         } = self;
         if owner.is_closed() {
-            return;
+            return false;
         }
         match way {
-            Way::Drops => {}
+            Way::Drops => false,
             Way::StopsFirst => {
-                let _ = mock.enter(|cx| !owner.is_closed() && owner.poll_idle(cx).is_pending());
+                mock.enter(|cx| !owner.is_closed() && owner.poll_idle(cx).is_pending())
             }
-            Way::IntoInner => {
-                let mut taking = owner.into_inner();
-                let _ = mock.poll(&mut taking);
-            }
+            Way::IntoInner(point) => dropped_at(owner.into_inner(), mock, gate, point),
         }
     }
 
