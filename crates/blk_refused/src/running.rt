@@ -2,11 +2,8 @@
 use crate::handle::BYTES;
 use crate::kind::{Came, JUMPED, Kind, SOUGHT, WRITTEN};
 use crate::mark::{GRANTED, REFUSED, mark};
-use crate::scene::{NARROW, Scene};
+use crate::scene::Scene;
 use std::io;
-
-// How often a handle may be read at most once its owner is about to leave: what the pipe holds before the drop, and twice after it. (Its end is far.)
-const LAST_CALLS: usize = NARROW + 2;
 
 // How many writes are made behind the first.
 const WRITES: u64 = 200;
@@ -61,27 +58,16 @@ pub(crate) fn runs<S: Scene, H: Print>(
             Some(_) => None,
             None => Some("the handle doesn't come back"),
         },
-        End::Dropped => leaves(&mut scene, kind),
+        End::Dropped => {
+            scene.let_go();
+            None
+        }
     };
     let rests = scene.rests();
     mark(rt, GRANTED)?;
     match wrong {
         None if !rests => Ok(Some("a job is queued, or runs, in the end")),
         _ => Ok(wrong),
-    }
-}
-
-// The owner is dropped. What of it is wrong, if anything is: the job doesn't read on.
-fn leaves<S: Scene>(scene: &mut S, kind: Kind) -> Option<&'static str> {
-    let calls = scene.calls();
-    scene.let_go();
-    let rests = scene.rests();
-    let more = scene.calls().saturating_sub(calls);
-    match kind {
-        Kind::Read | Kind::Next if rests && more > LAST_CALLS => {
-            Some("the job reads on after its owner left")
-        }
-        _ => None,
     }
 }
 

@@ -62,9 +62,6 @@ pub(crate) trait Scene: Drop {
     /// Drops the owner.
     fn let_go(&mut self);
 
-    /// How often the handle was read, written, flushed or asked for an item.
-    fn calls(&self) -> usize;
-
     /// The workers and jobs of the pool.
     fn counts(&self) -> Counts;
 
@@ -372,10 +369,6 @@ impl<J: Carrier<H>, H: Runtime + RandomSource + Print> Scene for Lent<J, H> {
 
     fn let_go(&mut self) {
         self.owner = None;
-    }
-
-    fn calls(&self) -> usize {
-        self.gate.calls()
     }
 
     fn counts(&self) -> Counts {
