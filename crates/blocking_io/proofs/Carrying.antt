@@ -12,7 +12,7 @@ use Rattle.blocking_core.specs.declared.copy.CopyAction.TheVariants.{Read, Write
 use Rattle.blocking_core.specs.declared.copy.CopyAnswer.{CopyAnswer}
 use Rattle.blocking_core.specs.declared.copy.CopyAnswer.TheVariants as by
 use Rattle.blocking_io.specs.Copies.{Acts, Carries, EndsFlushed, EndsRead, Passes, Reaches, Runs}
-use Rattle.blocking_io.specs.Copies.{Turns, all_read, all_written, bytes_of, greatest, is_copied}
+use Rattle.blocking_io.specs.Copies.{Turns, all_read, all_written, greatest, is_copied}
 use Rattle.blocking_io.specs.Copies.{is_ending, told_flush, told_poll, unwritten}
 use Rattle.blocking_io.specs.CopySteps.{AnswersTo, IsWhole, IsWholeAt, StandsAt, is_over, rest_of}
 use Rattle.blocking_io.specs.Polled.{ReaderPoll, WriterPoll, OfFlush, OfRead, OfWrite}

@@ -90,13 +90,24 @@ pub struct ReadSome<'a, A> {
 impl<'a, A: AsyncRead> Future for ReadSome<'a, A> {
     type Output = Result<usize, IoFault>;
 
-    ghost use Rattle.std.specs.Prelude.{◌≤◌, length, IfOk};
+    ghost use Rattle.std.specs.Prelude.{◌≡◌, ◌≤◌, length, IfOk};
+    ghost use Rattle.futures.specs.Poll.{IfReady, OnPending};
+    ghost use Rattle.futures.specs.Task.{IsArmed, Keeps};
+    ghost use Rattle.blocking_io.specs.Polled.{OfRead, with_bytes};
 
     ghost can_poll = { λ read. A.closed read.reader.now → ⊥ };
 
     ghost gives = { λ read out. IfOk out (λ n. n ≤ length read.buf.now) };
 
-    fn poll(&mut self, cx: &mut Context<'_>) -> Poll<Result<usize, IoFault>> {
+    fn poll(&mut self, cx: &mut Context<'_>) -> Poll<Result<usize, IoFault>>
+        requires { A.closed self.old.reader.now → ⊥ }
+        ensures open { A.closed self.new.reader.now → ⊥ }
+        ensures count { IfReady result (λ r. IfOk r (λ n. n ≤ length self.old.buf.now)) }
+        ensures same_length { length self.new.buf.now ≡ length self.old.buf.now }
+        ensures bytes { A.reads self.old.reader.now (OfRead (length self.old.buf.now) (with_bytes result self.new.buf.now)) self.new.reader.now }
+        ensures armed { OnPending result (IsArmed cx.new) }
+        ensures kept { Keeps cx.old cx.new }
+    {
         let reader = &mut *self.reader;
         let buf = &mut *self.buf;
         reader.poll_read(cx, buf)
@@ -153,6 +164,7 @@ impl<'a, A: AsyncRead> Future for ReadExact<'a, A> {
 
     fn poll(&mut self, cx: &mut Context<'_>) -> Poll<Result<(), IoFault>>
         requires { (A.closed self.old.reader.now → ⊥) × (self.old.filled ≤ length self.old.buf.now) }
+        ensures open { A.closed self.new.reader.now → ⊥ }
         ensures whole { IfReady result (λ r. IfOk r (λ _. self.new.filled ≡ length self.new.buf.now)) }
         ensures same_length { length self.new.buf.now ≡ length self.old.buf.now }
         ensures again { OnPending result ((A.closed self.new.reader.now → ⊥) × (self.new.filled ≤ length self.new.buf.now)) }
@@ -247,6 +259,7 @@ impl<'a, A: AsyncRead> Future for ReadToEnd<'a, A> {
 
     fn poll(&mut self, cx: &mut Context<'_>) -> Poll<Result<usize, IoFault>>
         requires { (A.closed self.old.reader.now → ⊥) × (self.old.start ≤ vec_len self.old.out.now) }
+        ensures open { A.closed self.new.reader.now → ⊥ }
         ensures count { IfReady result (λ r. IfOk r (λ n. vec_len self.new.out.now ≡ self.old.start + n)) }
         ensures start { self.new.start ≡ self.old.start }
         ensures front { StartsWith (vec_items self.new.out.now) (vec_items self.old.out.now) }

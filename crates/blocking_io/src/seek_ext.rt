@@ -37,9 +37,19 @@ pub struct SeekTo<'a, A> {
 impl<'a, A: AsyncSeek> Future for SeekTo<'a, A> {
     type Output = Result<u64, IoFault>;
 
+    ghost use Rattle.std.specs.Prelude.{◌≡◌};
+    ghost use Rattle.futures.specs.Poll.{OnPending};
+    ghost use Rattle.futures.specs.Task.{IsArmed, Keeps};
+
     ghost can_poll = { λ seek. A.closed seek.seeker.now → ⊥ };
 
-    fn poll(&mut self, cx: &mut Context<'_>) -> Poll<Result<u64, IoFault>> {
+    fn poll(&mut self, cx: &mut Context<'_>) -> Poll<Result<u64, IoFault>>
+        requires { A.closed self.old.seeker.now → ⊥ }
+        ensures open { A.closed self.new.seeker.now → ⊥ }
+        ensures same_place { self.new.to ≡ self.old.to }
+        ensures armed { OnPending result (IsArmed cx.new) }
+        ensures kept { Keeps cx.old cx.new }
+    {
         let seeker = &mut *self.seeker;
         seeker.poll_seek(cx, self.to)
     }

@@ -96,13 +96,24 @@ pub struct WriteSome<'a, A> {
 impl<'a, A: AsyncWrite> Future for WriteSome<'a, A> {
     type Output = Result<usize, IoFault>;
 
-    ghost use Rattle.std.specs.Prelude.{◌≤◌, length, IfOk};
+    ghost use Rattle.std.specs.Prelude.{◌≡◌, ◌≤◌, length, IfOk};
+    ghost use Rattle.futures.specs.Poll.{IfReady, OnPending};
+    ghost use Rattle.futures.specs.Task.{IsArmed, Keeps};
+    ghost use Rattle.blocking_io.specs.Polled.{OfWrite, with_bytes};
 
     ghost can_poll = { λ write. A.closed write.writer.now → ⊥ };
 
     ghost gives = { λ write out. IfOk out (λ n. n ≤ length write.bytes.now) };
 
-    fn poll(&mut self, cx: &mut Context<'_>) -> Poll<Result<usize, IoFault>> {
+    fn poll(&mut self, cx: &mut Context<'_>) -> Poll<Result<usize, IoFault>>
+        requires { A.closed self.old.writer.now → ⊥ }
+        ensures open { A.closed self.new.writer.now → ⊥ }
+        ensures count { IfReady result (λ r. IfOk r (λ n. n ≤ length self.old.bytes.now)) }
+        ensures same_bytes { self.new.bytes.now ≡ self.old.bytes.now }
+        ensures bytes { A.writes self.old.writer.now (OfWrite (with_bytes result self.old.bytes.now)) self.new.writer.now }
+        ensures armed { OnPending result (IsArmed cx.new) }
+        ensures kept { Keeps cx.old cx.new }
+    {
         let writer = &mut *self.writer;
         writer.poll_write(cx, self.bytes)
     }
@@ -170,6 +181,7 @@ impl<'a, A: AsyncWrite> Future for WriteAll<'a, A> {
 
     fn poll(&mut self, cx: &mut Context<'_>) -> Poll<Result<(), IoFault>>
         requires { (A.closed self.old.writer.now → ⊥) × (self.old.taken ≤ length self.old.bytes.now) }
+        ensures open { A.closed self.new.writer.now → ⊥ }
         ensures whole { IfReady result (λ r. IfOk r (λ _. self.new.taken ≡ length self.new.bytes.now)) }
         ensures same_bytes { self.new.bytes.now ≡ self.old.bytes.now }
         ensures again { OnPending result ((A.closed self.new.writer.now → ⊥) × (self.new.taken ≤ length self.new.bytes.now)) }
@@ -201,7 +213,17 @@ pub struct Flush<'a, A> {
 impl<'a, A: AsyncWrite> Future for Flush<'a, A> {
     type Output = Result<(), IoFault>;
 
-    fn poll(&mut self, cx: &mut Context<'_>) -> Poll<Result<(), IoFault>> {
+    ghost use Rattle.std.specs.Prelude.{◌↔◌};
+    ghost use Rattle.futures.specs.Poll.{OnPending};
+    ghost use Rattle.futures.specs.Task.{IsArmed, Keeps};
+    ghost use Rattle.blocking_io.specs.Polled.{OfFlush};
+
+    fn poll(&mut self, cx: &mut Context<'_>) -> Poll<Result<(), IoFault>>
+        ensures same { A.closed self.new.writer.now ↔ A.closed self.old.writer.now }
+        ensures flushed { A.writes self.old.writer.now (OfFlush result) self.new.writer.now }
+        ensures armed { OnPending result (IsArmed cx.new) }
+        ensures kept { Keeps cx.old cx.new }
+    {
         let writer = &mut *self.writer;
         writer.poll_flush(cx)
     }
