@@ -1,8 +1,9 @@
 //! A thread pool for calls that block, and for handles that do, as its users name it.
 //!
-//! An [`Executor`] has a queue of jobs, and workers that run them, each on a thread of its own. Where a job enters or is taken while more are
-//! queued than five times the idle workers, another worker is started, up to the limit. An idle worker stops where it found nothing to do for
-//! half a second, or where there are more workers than the limit.
+//! An [`Executor`] has a queue of jobs, and workers that run them, each on a thread of its own. A queued job is ready, unless a limit for
+//! each client is set and its client has as many running. Where a job enters or is taken while more are ready than five times the idle
+//! workers, another worker is started, up to the limit. An idle worker stops where it found nothing to do for half a second, or where there
+//! are more workers than the limit.
 //!
 //! The limit is 500, or what a text says that the program hands in, such as the variable [`MAX_THREADS_ENV`] holds ([`max_threads`]); no
 //! environment is read here. A thread that can't be had lowers it to the workers there are, until [`set_max_blocking_threads`] sets another.
