@@ -135,7 +135,6 @@ impl Iterator for Unused {
 /// let reader: Reader<File, H, Work<H>> = Unblock::new(executor.try_clone()?, file);
 /// let doubled = block_on(&rt, unblock(&executor, Double(21))?)?;
 /// ```
-#[derive(Drop)]
 pub enum Jobs<
     H: Runtime,
     F: Call<Out: Drop> + Drop = Unused,
@@ -158,6 +157,29 @@ pub enum Jobs<
     Seek(SeekJob<S, H>),
     /// That of an operation, of the sixth, on a handle of the seventh.
     Op(OpJob<O, T, H>),
+}
+
+// (as a derive has it; what a program drops of it is proved here once, and not in each program)
+impl<
+    H: Runtime,
+    F: Call<Out: Drop> + Drop,
+    R: Drop,
+    W: Drop,
+    D: Iterator<Item: Drop> + Drop,
+    S: Drop,
+    O: CallOn<T, Out: Drop> + Drop,
+    T: Drop,
+> Drop for Jobs<H, F, R, W, D, S, O, T> {
+    fn drop(self) {
+        match self {
+            Jobs::Call(job) => drop(job),
+            Jobs::Read(job) => drop(job),
+            Jobs::Write(job) => drop(job),
+            Jobs::Item(job) => drop(job),
+            Jobs::Seek(job) => drop(job),
+            Jobs::Op(job) => drop(job),
+        }
+    }
 }
 
 impl<

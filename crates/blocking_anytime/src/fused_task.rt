@@ -66,7 +66,7 @@ impl<F: Call<Out: Drop>, H: Wait + Copy> FusedTask<F, H> {
 }
 
 impl<F: Call<Out: Drop>, H: Wait + Copy> Future for FusedTask<F, H> {
-    ghost use Rattle.std.specs.Prelude.{IsSome, IsNone, IsSomeAnd};
+    ghost use Rattle.std.specs.Prelude.{IfSome, IsSome, IsNone, IsSomeAnd};
     ghost use Rattle.futures.specs.Poll.{IfReady, OnPending};
     ghost use Rattle.futures.specs.Task.{Covers, Keeps};
 
@@ -80,6 +80,7 @@ impl<F: Call<Out: Drop>, H: Wait + Copy> Future for FusedTask<F, H> {
         ensures value { IfReady result (λ out. IsSome self.old.task × F.may_give out) }
         ensures taken { IfReady result (λ _. IsNone self.new.task) }
         ensures waits { OnPending result (IsSome self.new.task ↔ IsSome self.old.task) }
+        ensures seated { OnPending result (IfSome self.new.task (λ task. IsSome task.asked)) }
         ensures registered { OnPending result
             (Covers cx.new (λ source. IsSomeAnd self.new.task (λ task. source ≡ task.source.id))) }
         ensures kept { Keeps cx.old cx.new }

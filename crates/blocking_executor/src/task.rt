@@ -215,7 +215,7 @@ pub struct Cancel<F: Call<Out: Drop>, H: Wait + Copy> {
 }
 
 impl<F: Call<Out: Drop>, H: Wait + Copy> Cancel<F, H> {
-    ghost use Rattle.std.specs.Prelude.{IfSome, IsSome};
+    ghost use Rattle.std.specs.Prelude.{IfSome, Some};
     ghost use Rattle.futures.specs.declared.task.Poll.{Poll};
     ghost use Rattle.futures.specs.Poll.{IfReady, OnPending};
     ghost use Rattle.blocking_executor.specs.SlotAnswers.{settled};
@@ -266,7 +266,7 @@ impl<F: Call<Out: Drop>, H: Wait + Copy> Cancel<F, H> {
         ensures again { OnPending result
             ((self.new.is_taken ≡ false) × (self.new.found ≡ self.old.found)) }
         ensures source_is { self.new.source ≡ self.old.source }
-        ensures asked { IsSome self.new.answer }
+        ensures asked { self.new.answer ≡ Some answer }
         ensures allowed { IfReady result (λ out. IfSome out F.may_give) }
     {
         match answer {
@@ -284,9 +284,10 @@ impl<F: Call<Out: Drop>, H: Wait + Copy> Cancel<F, H> {
 }
 
 impl<F: Call<Out: Drop>, H: Wait + Copy> Future for Cancel<F, H> {
-    ghost use Rattle.std.specs.Prelude.{IfSome, IsSome, None};
+    ghost use Rattle.std.specs.Prelude.{IfSome, IsSomeAnd, None};
     ghost use Rattle.futures.specs.Poll.{IfReady, OnPending};
     ghost use Rattle.futures.specs.Task.{Covers, Keeps};
+    ghost use Rattle.blocking_executor.specs.SlotAnswers.{settled};
 
     type Output = Option<F::Out>;
 
@@ -301,7 +302,7 @@ impl<F: Call<Out: Drop>, H: Wait + Copy> Future for Cancel<F, H> {
         ensures value { IfReady result (λ out. (out ≡ self.old.found) × IfSome out F.may_give) }
         ensures taken { IfReady result (λ _. self.new.is_taken ≡ true) }
         ensures at_once { OnPending result (self.old.found ≡ None) }
-        ensures asked { self.old.found ≡ None → IsSome self.new.answer }
+        ensures asked { self.old.found ≡ None → IsSomeAnd self.new.answer (λ answer. result ≡ settled answer self.old.found) }
         ensures again { OnPending result
             ((self.new.is_taken ≡ false) × (self.new.found ≡ self.old.found)) }
         ensures registered { OnPending result

@@ -1,10 +1,12 @@
 //! A copy of a file to another.
-ghost use Rattle.std.specs.Prelude.{◌≡◌, ◌↔◌, false, Err, IfOk, IfErr, IfSome, IsErr, IsNone, IsSome, IsSomeAnd};
+ghost use Rattle.std.specs.Prelude.{◌≡◌, ◌↔◌, false, Ok, Err, IfOk, IfErr, IfSome, IsErr, IsNone, IsSome, IsSomeAnd};
 ghost use Rattle.futures.specs.Poll.{IfReady, OnPending};
 ghost use Rattle.futures.specs.Task.{Covers, Keeps};
 ghost use Rattle.futures.specs.declared.task.Poll.{Poll};
 ghost use Rattle.std.specs.Option.{ForSome};
 ghost use Rattle.blocking_io.specs.CopySteps.{is_over};
+ghost use Rattle.blocking_io.specs.Copies.{EndsWith, Reaches};
+ghost use Rattle.blocking_files.specs.Told.{FailsWith};
 
 use crate::calls::{OpenBoth, Shared};
 use crate::file::File;
@@ -12,7 +14,7 @@ use crate::files::Files;
 use crate::job::FileJob;
 use crate::opening::file_over;
 use crate::task::FileTask;
-use blocking::{CallJob, Carries, Copier, Job, ReadJob, Runtime, WriteJob};
+use blocking::{AsyncRead, AsyncWrite, CallJob, Carries, Copier, Job, ReadJob, Runtime, WriteJob};
 use futures::Future;
 use futures::task::{Context, Poll};
 use std::alloc::{AllocError, Global};
@@ -24,7 +26,8 @@ const PIECE: usize = 65_536;
 /// A copy of a file to another: a future of how many bytes were copied, or the greatest number of 64 bits where there were more. It is ready
 /// once all of them were written and flushed, which doesn't mean that the disk has them.
 ///
-/// It may be polled at any time; behind its answer it is pending for good. After a fault the copy may have a part of the bytes.
+/// It may be polled at any time; behind its answer it is pending for good. After a fault the copy may have a part of the bytes. Both files
+/// stay open until it is dropped.
 ///
 /// ```rust
 /// let copied = block_on(&rt, files.copy(from, to))??;
@@ -38,6 +41,8 @@ pub struct Copying<H: Runtime, J: Job = FileJob<H>> {
     alloc: Global,
     // The copy, once both are open and until it was ready.
     copier: Option<Copier<File<H, J>, File<H, J>>>,
+    // The copy, once it was ready: it shows what was answered.
+    ended: Option<Copier<File<H, J>, File<H, J>>>,
     ghost going: { ForSome copier (λ copier. is_over copier.core.next ≡ false) },
     ghost opened: { ForSome copier (λ _. IsNone task.task × IsNone task.refused) },
 }
@@ -53,6 +58,7 @@ impl<H: Runtime, J: Job + Carries<CallJob<OpenBoth, H>>> Copying<H, J> {
             files: files.try_clone().ok(),
             alloc: files.alloc(),
             copier: None,
+            ended: None,
         }
     }
 }
@@ -67,7 +73,7 @@ impl<H: Runtime, J: Job + Carries<ReadJob<Shared, H>> + Carries<WriteJob<Shared,
         cx: &mut Context<'_>,
     ) -> Poll<io::Result<Copier<File<H, J>, File<H, J>>>>
         ensures going { IfReady result (λ r. IfOk r (λ copier. is_over copier.core.next ≡ false)) }
-        ensures same { self.new.copier ≡ self.old.copier }
+        ensures same { (self.new.copier ≡ self.old.copier) × (self.new.ended ≡ self.old.ended) }
         ensures refused { IfSome self.old.task.refused (λ answer. IfErr answer (λ why. result ≡ Poll.Ready (Err why))) }
         ensures behind { IsNone self.old.task.task → IsNone self.old.task.refused → result ≡ Poll.Pending }
         ensures taken { IfReady result (λ _. IsNone self.new.task.task × IsNone self.new.task.refused) }
@@ -101,6 +107,12 @@ impl<H: Runtime, J: Job + Carries<ReadJob<Shared, H>> + Carries<WriteJob<Shared,
     type Output = io::Result<u64>;
 
     fn poll(&mut self, cx: &mut Context<'_>) -> Poll<io::Result<u64>>
+        ensures copied { IfReady result (λ r. IfOk r (λ count.
+            IsSomeAnd self.new.ended (λ copier. EndsWith copier.core.next (Ok count)))) }
+        ensures fault { IsSome self.old.copier → IfReady result (λ r. IfErr r (λ error.
+            IsSomeAnd self.new.ended (λ copier. FailsWith copier error))) }
+        ensures went_on { IfSome self.old.copier (λ old. OnPending result (IsSomeAnd self.new.copier
+            (λ new. Reaches ⟦<File<H, J> as AsyncRead>⟧.reads ⟦<File<H, J> as AsyncWrite>⟧.writes old new))) }
         ensures over { IfReady result (λ _. IsNone self.new.copier) }
         ensures refused { IsNone self.old.copier
             → IfSome self.old.task.refused (λ answer. IfErr answer (λ why. result ≡ Poll.Ready (Err why))) }
@@ -127,7 +139,7 @@ impl<H: Runtime, J: Job + Carries<ReadJob<Shared, H>> + Carries<WriteJob<Shared,
         match copier.poll(cx) {
             Poll::Pending => Poll::Pending,
             Poll::Ready(ended) => {
-                self.copier = None;
+                self.ended = self.copier.take();
                 Poll::Ready(ended.map_err(io::Error::from))
             }
         }
