@@ -11,7 +11,8 @@ use std::mem;
 
 /// A store of pieces, so many items each. A whole piece comes in as it is where those inside are whole too, and memory for the next is given for
 /// it. The first piece goes out as it is where nothing of it is gone and a whole one is asked for. That which is handed in for it is kept
-/// as memory. All else is copied.
+/// as memory. All else is copied. Where a part of the first piece is gone and the last is full, there may be no memory for a next item. Then what
+/// is inside moves to the front first, which takes longer the more there is.
 pub struct LendingStore;
 
 /// The memory of such a store: pieces, those inside and those that are spent.
@@ -274,7 +275,9 @@ impl<X: Copy> Store<X> for LendingStore {
     ghost held = { λ memory. record { items = drop memory.gone (flat_map vec_items memory.pieces.items); capacity = memory.capacity } };
 
     fn new(alloc: Global, capacity: usize) -> Result<LendingMemory<X>, AllocError> {
-        LendingMemory::with_piece(alloc, capacity, capacity.min(PIECE))
+        // (as short as so many pieces may be: fewer places than there are pieces stay over)
+        let pieces = capacity.div_ceil(PIECE);
+        LendingMemory::with_piece(alloc, capacity, capacity.div_ceil(pieces))
     }
 
     fn len(memory: &LendingMemory<X>) -> usize {
