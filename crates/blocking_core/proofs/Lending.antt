@@ -5,7 +5,8 @@ use Rattle.std.proofs.Common.{List, [], ◌∷◌, ◌++◌, length, take, drop,
 use Rattle.std.proofs.Common.{flat_map, refl, ap, sym, subst, ◌∙◌, arith, append_assoc}
 use Rattle.std.proofs.Common.{length-append, take_at, drop_at, take-add}
 use Rattle.std.proofs.lemmas.List.{take_rest, append-nil, take_all, length_push, drop_all}
-use Rattle.std.proofs.lemmas.List.{drop-append-le, take-append-drop, length-take-le, length-drop}
+use Rattle.std.proofs.lemmas.List.{drop-append-le, take-append-le, take-append-drop}
+use Rattle.std.proofs.lemmas.List.{length-take-le, length-drop}
 use Rattle.std.proofs.lemmas.List.{take-take, drop_more, drop-drop, get_or-take}
 use Rattle.std.proofs.lemmas.List.Concat.{flat_map-append}
 use Rattle.std.proofs.lemmas.List.Elements.{All-tail, All-push, All-take, All-drop, All-nil}
@@ -14,7 +15,7 @@ use Rattle.std.proofs.lemmas.Option.{slice_get_within, get_or_from_slice_get}
 use Rattle.circular_buffer.proofs.Places.{below_or_not, slice_get-some, slice_get-tail}
 use Rattle.circular_buffer.proofs.Places.{slice_get-append_left, slice_get-append_right}
 use Rattle.circular_buffer.specs.Buffer.{last_item}
-use Rattle.blocking_core.specs.Lending.{IsRow, IsCount, IsMemory, IsLast}
+use Rattle.blocking_core.specs.Lending.{IsRow, IsMemory, IsLast}
 use Rattle.blocking_core.proofs.Stores.{one_more}
 
 -- one row more
@@ -326,13 +327,6 @@ module _ {V X : Type 0} (items_of : V → List X) where
             ∙ sym (drop-drop left gone (flat_map items_of pieces)),
       )
 
--- where so many whole pieces are inside and an item fits, there are more pieces than those
-some_left : (n spent gone len piece capacity : ℕ) → n * piece ≡ gone + len
-    → capacity + piece ≤ (n + spent) * piece → gone < piece → len < capacity → 0 < spent
-some_left n zero gone len piece capacity all enough before room =
-    absurd (omega (arith, all, enough, before, room))
-some_left n (suc spent) gone len piece capacity all enough before room = omega arith
-
 -- a place behind those that are gone
 slice_get-drop : {X : Type 0} (n : ℕ) (xs : List X) (i : ℕ)
     → slice_get (drop n xs) i ≡ slice_get xs (n + i)
@@ -364,18 +358,6 @@ module _ {V X : Type 0} (items_of : V → List X) where
       let here =
       row_place items_of pieces (gone + place) piece (gone + len) v row (omega arith) at in
       (here.0, here.1 ∙ sym (slice_get-drop gone (flat_map items_of pieces) place))
-
-  -- Where all pieces are full and an item fits, one is spent.
-  pub spare_left : (pieces spent : List V) (piece gone len capacity : ℕ)
-      → IsRow items_of pieces piece (gone + len) → IsCount gone len piece capacity
-      → capacity + piece ≤ (length pieces + length spent) * piece
-      → length (drop gone (flat_map items_of pieces)) < capacity
-      → (gone + len) % piece ≡ 0 → 0 < length spent
-  spare_left pieces spent piece gone len capacity row count enough room whole =
-      let long = inside_long items_of pieces piece gone len row in
-      some_left (length pieces) (length spent) gone len piece capacity
-      (row_whole items_of pieces piece (gone + len) row whole).1 enough count.before
-      (omega (arith, long, room))
 
   -- Where all are full an empty piece may come behind them.
   pub empty_last : (pieces : List V) (last : V) (piece total : ℕ)
@@ -453,6 +435,114 @@ module _ {V X : Type 0} (items_of : V → List X) where
             ∙ ap (λ n. drop n (flat_map items_of pieces)) same
             ∙ ap (drop count) (sym (from (flat_map items_of pieces))),
         subst (IsRow items_of (drop 1 pieces) piece) (omega (arith, same, none)) cut.3,
+      )
+
+-- Whole pieces while what is inside moves towards the front, and a piece in hand: the first so many
+-- of them are as they were, and their items come behind those in hand. The others come before it.
+pub record IsMoving {V X : Type 0} (items_of : V → List X) (inside : List X) (pieces : List V)
+    (hand : V) (left gone piece : ℕ) : Type 0 where
+  pub full : All (λ v. length (items_of v) ≡ piece) pieces
+  pub short : length (items_of hand) + gone ≡ piece
+  pub items : flat_map items_of (drop left pieces) ++ (items_of hand
+      ++ flat_map items_of (take left pieces)) ≡ inside
+
+module _ {V X : Type 0} (items_of : V → List X) where
+  -- the first piece is in hand, without those that are gone
+  pub moving_from : (pieces : List V) (first hand : V) (left gone piece : ℕ)
+      → All (λ v. length (items_of v) ≡ piece) pieces → slice_get pieces 0 ≡ Some first
+      → items_of hand ≡ drop gone (items_of first) → gone < piece
+      → left ≡ length (drop 1 pieces)
+      → IsMoving items_of (drop gone (flat_map items_of pieces)) (drop 1 pieces) hand left gone
+      piece
+  moving_from [] first hand left gone piece full at is less all = absurd cc
+  moving_from (v ∷ rest) first hand left gone piece full at is less all =
+      let same : v ≡ first = cc in
+      let long : length (items_of v) ≡ piece = full 0 v (omega arith) in
+      let own : items_of hand ≡ drop gone (items_of v) =
+      is ∙ ap (λ w. drop gone (items_of w)) (sym same) in
+      record {
+        full = All-tail (λ w. length (items_of w) ≡ piece) v rest full;
+        short = omega (arith, ap length own, length-drop gone (items_of v), long);
+        items = ap (λ none. flat_map items_of none ++ (items_of hand
+            ++ flat_map items_of (take left rest))) (drop_all left rest (omega arith))
+            ∙ ap (λ more. items_of hand ++ flat_map items_of more)
+            (take_all left rest (omega arith))
+            ∙ ap (λ front. front ++ flat_map items_of rest) own
+            ∙ sym (drop-append-le gone (items_of v) (flat_map items_of rest) (omega arith));
+      }
+
+  -- what stands where, as the next piece fills that in hand up
+  moved_items : (before behind : List X) (next hand filled rest : List X) (gone : ℕ)
+      → filled ≡ hand ++ take gone next → rest ≡ drop gone next
+      → (before ++ filled) ++ (rest ++ behind) ≡ before ++ (hand ++ (next ++ behind))
+  moved_items before behind next hand filled rest gone fills left =
+      let start = take gone next in
+      let end = drop gone next in
+      let apart : (before ++ (hand ++ start)) ++ (end ++ behind)
+      ≡ before ++ (hand ++ ((start ++ end) ++ behind)) = simp append_assoc in
+      ap (λ all. (before ++ all) ++ (rest ++ behind)) fills
+      ∙ ap (λ more. (before ++ (hand ++ start)) ++ (more ++ behind)) left
+      ∙ apart
+      ∙ ap (λ all. before ++ (hand ++ (all ++ behind))) (take-append-drop gone next)
+
+  -- the next piece fills that in hand up, and its rest is in hand
+  pub moving_on : (inside : List X) (pieces : List V) (next hand filled rest : V)
+      (left fewer gone piece : ℕ) → IsMoving items_of inside pieces hand left gone piece
+      → slice_get pieces 0 ≡ Some next → left ≡ suc fewer → left ≤ length pieces
+      → items_of filled ≡ items_of hand ++ take gone (items_of next)
+      → items_of rest ≡ drop gone (items_of next)
+      → IsMoving items_of inside (drop 1 pieces ++ filled ∷ []) rest fewer gone piece
+  moving_on inside [] next hand filled rest left fewer gone piece now at more low put is =
+      absurd cc
+  moving_on inside (v ∷ others) next hand filled rest left fewer gone piece now at more low put is =
+      let same : v ≡ next = cc in
+      let long : length (items_of v) ≡ piece = now.full 0 v (omega arith) in
+      let filled_is : items_of filled ≡ items_of hand ++ take gone (items_of v) =
+      put ∙ ap (λ w. items_of hand ++ take gone (items_of w)) (sym same) in
+      let rest_is : items_of rest ≡ drop gone (items_of v) =
+      is ∙ ap (λ w. drop gone (items_of w)) (sym same) in
+      let taken = length-take-le gone (items_of v) (omega (arith, now.short)) in
+      let long_put = ap length filled_is ∙ length-append (items_of hand) (take gone (items_of v)) in
+      let own = ap length rest_is ∙ length-drop gone (items_of v) in
+      let were : flat_map items_of (drop fewer others) ++ (items_of hand ++ (items_of v
+      ++ flat_map items_of (take fewer others))) ≡ inside =
+      subst (λ n. flat_map items_of (drop n (v ∷ others)) ++ (items_of hand
+      ++ flat_map items_of (take n (v ∷ others))) ≡ inside) more now.items in
+      record {
+        full = All-push (λ w. length (items_of w) ≡ piece) others filled
+            (All-tail (λ w. length (items_of w) ≡ piece) v others now.full)
+            (omega (arith, long_put, taken, now.short));
+        short = omega (arith, own, long, now.short);
+        items = ap (λ all. flat_map items_of all ++ (items_of rest
+            ++ flat_map items_of (take fewer (others ++ filled ∷ []))))
+            (drop-append-le fewer others (filled ∷ []) (omega arith))
+            ∙ ap (λ all. all ++ (items_of rest
+            ++ flat_map items_of (take fewer (others ++ filled ∷ []))))
+            (items_pushed items_of (drop fewer others) filled)
+            ∙ ap (λ all. (flat_map items_of (drop fewer others) ++ items_of filled)
+            ++ (items_of rest ++ flat_map items_of all))
+            (take-append-le fewer others (filled ∷ []) (omega arith))
+            ∙ moved_items (flat_map items_of (drop fewer others))
+            (flat_map items_of (take fewer others)) (items_of v) (items_of hand)
+            (items_of filled) (items_of rest) gone filled_is rest_is
+            ∙ were;
+      }
+
+  -- what is in hand comes behind all others
+  pub moving_ends : (inside : List X) (pieces : List V) (hand : V) (left gone piece : ℕ)
+      → IsMoving items_of inside pieces hand left gone piece → left ≡ 0 → gone < piece
+      → IsRow items_of (pieces ++ hand ∷ []) piece (length (pieces ++ hand ∷ []) * piece - gone)
+      × (flat_map items_of (pieces ++ hand ∷ []) ≡ inside)
+  moving_ends inside pieces hand left gone piece now none less =
+      let were : flat_map items_of pieces ++ (items_of hand ++ []) ≡ inside =
+      subst (λ n. flat_map items_of (drop n pieces) ++ (items_of hand
+      ++ flat_map items_of (take n pieces)) ≡ inside) none now.items in
+      let places : length (pieces ++ hand ∷ []) * piece ≡ length pieces * piece + piece =
+      row_more (length pieces) (length (pieces ++ hand ∷ [])) piece (length_push pieces hand) in (
+        row_pushed items_of pieces hand piece (length (pieces ++ hand ∷ []) * piece - gone)
+            now.full (omega (arith, now.short, places)) (omega (arith, now.short))
+            (omega (arith, now.short)),
+        flat_map-append items_of pieces (hand ∷ []) ∙ were,
       )
 
 module _ {V : Type 0} (room_of : V → ℕ) where

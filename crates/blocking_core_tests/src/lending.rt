@@ -19,6 +19,8 @@ enum Step {
     Fill(u8, usize),
     // The job, which has nothing in its hand, asks for more.
     Lend,
+    // It asks for one byte only: the rest of a piece stays inside.
+    LendOne,
     // The job lets so many bytes go.
     Consume(usize),
     CloseOwner,
@@ -88,6 +90,31 @@ const BEHIND_A_BYTE: &[Line] = &[
     (Step::Lend, Shown::Parked, 0, 5),
 ];
 
+// Capacity 6, in three pieces: two times a byte leaves the first of three full ones, and the byte for which there is room then comes behind all
+// others. So they move down.
+const BEHIND_A_PART: &[Line] = &[
+    (Step::Fill(b'a', 2), Shown::Took(2, None), 0, 4),
+    (Step::Fill(b'c', 2), Shown::Took(2, None), 0, 2),
+    (Step::Fill(b'e', 2), Shown::Took(2, None), 0, 0),
+    (Step::LendOne, Shown::Lent(b'a', 1), 1, 0),
+    (Step::Fill(b'g', 2), Shown::Waits(None), 1, 0),
+    (Step::Consume(1), Shown::Waker(Some(OWNER)), 0, 1),
+    (Step::Fill(b'g', 2), Shown::Took(1, None), 0, 0),
+    (Step::LendOne, Shown::Lent(b'b', 1), 1, 0),
+    (Step::Consume(1), Shown::Waker(None), 0, 1),
+    (Step::Fill(b'h', 1), Shown::Took(1, None), 0, 0),
+    (Step::Lend, Shown::Lent(b'c', 2), 2, 0),
+    (Step::Consume(2), Shown::Waker(None), 0, 2),
+    (Step::Fill(b'i', 2), Shown::Took(2, None), 0, 0),
+    (Step::Lend, Shown::Lent(b'e', 2), 2, 0),
+    (Step::Consume(2), Shown::Waker(None), 0, 2),
+    (Step::Lend, Shown::Lent(b'g', 2), 2, 2),
+    (Step::Consume(2), Shown::Waker(None), 0, 4),
+    (Step::Lend, Shown::Lent(b'i', 2), 2, 4),
+    (Step::Consume(2), Shown::Waker(None), 0, 6),
+    (Step::Lend, Shown::Parked, 0, 6),
+];
+
 // A pipe, what stands ready of its owner, and what its job has in its hand.
 #[derive(Drop)]
 struct Both {
@@ -114,8 +141,11 @@ fn in_order(bytes: &[u8]) -> bool {
 }
 
 impl Both {
-    fn new(alloc: Global) -> Option<Both> {
-        let pipe = Pipe::over(LendingMemory::with_piece(alloc, 5, WHOLE).ok()?);
+    fn new(alloc: Global, capacity: usize) -> Option<Both> {
+        if capacity == 0 {
+            return None;
+        }
+        let pipe = Pipe::over(LendingMemory::with_piece(alloc, capacity, WHOLE).ok()?);
         let ready = Vec::with_capacity(alloc, WHOLE).ok()?;
         let hand = Vec::with_capacity(alloc, WHOLE).ok()?;
         let bench = Bench::new(alloc, 1)?;
@@ -154,11 +184,11 @@ impl Both {
         }
     }
 
-    fn lend(&mut self) -> Shown {
-        if self.pipe.lent() > 0 || self.hand.capacity() < WHOLE {
+    fn lend(&mut self, most: usize) -> Shown {
+        if self.pipe.lent() > 0 || most == 0 || self.hand.capacity() < most {
             return Shown::Misplaced;
         }
-        match self.pipe.lend_or_seat(self.job, WHOLE, &mut self.hand) {
+        match self.pipe.lend_or_seat(self.job, most, &mut self.hand) {
             Peeked::Some(count) if count == self.hand.len() && in_order(&self.hand) => match self
                 .hand
                 .first()
@@ -175,7 +205,8 @@ impl Both {
     fn take_step(&mut self, step: Step) -> Shown {
         match step {
             Step::Fill(first, count) => self.fill(first, count),
-            Step::Lend => self.lend(),
+            Step::Lend => self.lend(WHOLE),
+            Step::LendOne => self.lend(1),
             Step::Consume(count) if count <= self.pipe.lent() => Shown::Waker(
                 self.pipe.let_go(count),
             ),
@@ -190,8 +221,8 @@ impl Both {
 }
 
 // Takes the steps of a row, and stops the test at the first that shows something else.
-fn play<R: AllocGlobal + Abort>(rt: &R, name: &str, lines: &[Line]) {
-    let Some(mut both) = Both::new(rt.alloc()) else {
+fn play<R: AllocGlobal + Abort>(rt: &R, name: &str, capacity: usize, lines: &[Line]) {
+    let Some(mut both) = Both::new(rt.alloc(), capacity) else {
         stop(rt, name, lines.len())
     };
     for (place, (step, shown, lent, room)) in lines.iter().enumerate() {
@@ -204,19 +235,24 @@ fn play<R: AllocGlobal + Abort>(rt: &R, name: &str, lines: &[Line]) {
 
 #[test]
 fn pieces_and_other_bytes_are_lent_in_order(rt: HostRuntime) {
-    play(&rt, "pieces, and bytes that are none", PIECES);
+    play(&rt, "pieces, and bytes that are none", 5, PIECES);
 }
 
 #[test]
 fn piece_behind_a_byte_is_lent_after_it(rt: HostRuntime) {
-    play(&rt, "a piece behind a byte", BEHIND_A_BYTE);
+    play(&rt, "a piece behind a byte", 5, BEHIND_A_BYTE);
+}
+
+#[test]
+fn bytes_move_down_where_a_part_of_the_first_piece_is_gone(rt: HostRuntime) {
+    play(&rt, "a byte behind full pieces", 6, BEHIND_A_PART);
 }
 
 // The pieces are told from one another by their memory.
 #[test]
 fn whole_pieces_are_moved(rt: HostRuntime) {
     let name = "a whole piece";
-    let Some(mut both) = Both::new(rt.alloc()) else {
+    let Some(mut both) = Both::new(rt.alloc(), 5) else {
         stop(&rt, name, 0)
     };
     let Ok(ready) = Vec::with_capacity(rt.alloc(), 7) else {
@@ -226,7 +262,7 @@ fn whole_pieces_are_moved(rt: HostRuntime) {
     if both.fill(b'a', WHOLE) != Shown::Took(WHOLE, None) || both.ready.capacity() != WHOLE {
         stop(&rt, name, 2);
     }
-    if both.lend() != Shown::Lent(b'a', WHOLE) || both.hand.capacity() != 7 {
+    if both.lend(WHOLE) != Shown::Lent(b'a', WHOLE) || both.hand.capacity() != 7 {
         stop(&rt, name, 3);
     }
 }

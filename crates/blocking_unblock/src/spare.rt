@@ -21,15 +21,15 @@ pub(crate) enum Spare {
     Write(Memory),
 }
 
-// New memory for a session that reads. Two of its pieces at least fill the pipe, so that one may be read while another is drained, and all of
-// them as far as that comes out even, since no whole piece goes in behind another.
+// New memory for a session that reads. Two of its pieces at least fill the pipe, so that one may be read while another is drained. They are as
+// short as so many may be: fewer places than there are pieces stay over.
 fn new_for_reading(alloc: Global, capacity: usize) -> Result<Memory, AllocError>
     requires { 0 < capacity }
     ensures { IfOk result (λ memory.
         let stored = ⟦<SessionStore as Store<u8>>⟧.held memory.store in stored.capacity ≡ capacity) }
 {
     let pieces = capacity.div_ceil(PIECE).max(2);
-    let piece = (capacity / pieces).max(1);
+    let piece = capacity.div_ceil(pieces);
     PieceMemory::over(alloc, LendingMemory::with_piece(alloc, capacity, piece)?)
 }
 

@@ -79,7 +79,7 @@ impl<T: Drop, I: Drop, J: Job, H: Runtime> Unblock<T, I, J, H> {
 
     /// The owner of a handle, whose sessions have pipes for 8,388,608 bytes or 8192 items.
     ///
-    /// It takes no memory itself. A session that reads or writes takes that of its pipe, and three pieces of 65,536 bytes more. The next session
+    /// It takes no memory itself. A session that reads or writes takes that of its pipe, and two pieces of 65,536 bytes more. The next session
     /// of its kind uses it again.
     ///
     /// ```rust
@@ -100,9 +100,9 @@ impl<T: Drop, I: Drop, J: Job, H: Runtime> Unblock<T, I, J, H> {
         }
     }
 
-    /// The owner of a handle, whose sessions have pipes for at most `capacity` bytes or items. One that writes has its memory in pieces of
-    /// 65,536 bytes, or of the capacity where that is less. One that reads has it in such pieces or two halves of the capacity. It takes
-    /// three of them in addition to the capacity, or not quite four where they don't fill it evenly.
+    /// The owner of a handle, whose sessions have pipes for at most `capacity` bytes or items. One that reads or writes has its memory in
+    /// pieces of one length, 65,536 bytes at most. It takes as few as hold the capacity, and for one that reads two at least. It takes two
+    /// of them in addition.
     ///
     /// ```rust
     /// let mut reader: Reader<File, H> = Unblock::with_capacity(65_536, executor, file);

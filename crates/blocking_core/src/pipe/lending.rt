@@ -1,5 +1,5 @@
 //! A store of whole pieces, which it takes and gives as they are, so that what they hold is not copied.
-ghost use Rattle.std.specs.Prelude.{◌≡◌, ◌≤◌, ◌<◌, ◌+◌, ◌*◌, ◌%◌, length, min, take, drop, slice_get, flat_map, vec_items, vec_capacity, Some, IfOk, All};
+ghost use Rattle.std.specs.Prelude.{◌≡◌, ◌≤◌, ◌<◌, ◌+◌, ◌-◌, ◌*◌, ◌%◌, length, min, take, drop, slice_get, flat_map, vec_items, vec_len, vec_capacity, Some, IfOk, All};
 ghost use Rattle.std.specs.Bool.{OnTrue};
 ghost use Rattle.blocking_core.specs.Lending.{IsRow, IsCount, IsMemory, IsLast};
 
@@ -11,7 +11,8 @@ use std::mem;
 
 /// A store of pieces, so many items each. A whole piece comes in as it is where those inside are whole too, and memory for the next is given for
 /// it. The first piece goes out as it is where nothing of it is gone and a whole one is asked for. That which is handed in for it is kept
-/// as memory. All else is copied.
+/// as memory. All else is copied. Where a part of the first piece is gone and the last is full, there may be no memory for a next item. Then what
+/// is inside moves to the front first, which takes longer the more there is.
 pub struct LendingStore;
 
 /// The memory of such a store: pieces, those inside and those that are spent.
@@ -30,8 +31,7 @@ pub struct LendingMemory<X: Drop> {
     ghost row: { IsRow vec_items pieces.items piece (gone + len) },
     ghost count: { IsCount gone len piece capacity },
     ghost memory: { IsMemory vec_capacity pieces.items spent.items 0 piece pieces.capacity (vec_capacity spent) },
-    // (for the capacity, and for a first piece that is partly gone)
-    ghost enough: { capacity + piece ≤ (length pieces.items + length spent.items) * piece },
+    ghost enough: { capacity ≤ (length pieces.items + length spent.items) * piece },
 }
 
 // Memory for so many pieces, of so many items each.
@@ -79,21 +79,67 @@ fn take_last<X: Drop>(
     last
 }
 
+// Drops the first items of a piece.
+fn drop_first<X: Copy>(piece: &mut Vec<X>, count: usize)
+    requires { count ≤ vec_len piece.old }
+    ensures items { piece.new.items ≡ drop count piece.old.items }
+    ensures room { vec_capacity piece.new ≡ vec_capacity piece.old }
+{
+    let left = piece.len() - count;
+    piece.copy_within(count.., 0);
+    piece.truncate(left);
+}
+
+// Moves the items of whole pieces towards the front, where so many of the first piece are gone. Then none are, and the last piece has room for as
+// many.
+fn close_up<X: Copy>(pieces: &mut HeapCircularBuffer<Vec<X>>, gone: usize, piece: usize)
+    requires some { 0 < length pieces.old.items }
+    requires whole { All (λ v. length (vec_items v) ≡ piece) pieces.old.items }
+    requires before { gone < piece }
+    requires room { All (λ v. piece ≤ vec_capacity v) pieces.old.items }
+    requires fit { length pieces.old.items ≤ pieces.old.capacity }
+    ensures items { flat_map vec_items pieces.new.items ≡ drop gone (flat_map vec_items pieces.old.items) }
+    ensures row { IsRow vec_items pieces.new.items piece (length pieces.old.items * piece - gone) }
+    ensures count { length pieces.new.items ≡ length pieces.old.items }
+    ensures capacity { pieces.new.capacity ≡ pieces.old.capacity }
+    ensures room { All (λ v. piece ≤ vec_capacity v) pieces.new.items }
+{
+    let Some(mut hand) = pieces.pop_front() else {
+        unreachable!()
+    };
+    drop_first(&mut hand, gone);
+    for _ in 0..pieces.len() {
+        let Some(mut next) = pieces.pop_front() else {
+            unreachable!()
+        };
+        let Ok(()) = hand.extend_from_slice(&next[..gone]) else {
+            unreachable!()
+        };
+        drop_first(&mut next, gone);
+        let Ok(()) = pieces.try_push_back(mem::replace(&mut hand, next)) else {
+            unreachable!()
+        };
+    }
+    let Ok(()) = pieces.try_push_back(hand) else {
+        unreachable!()
+    };
+}
+
 impl<X: Copy> LendingMemory<X> {
     ghost use Rattle.blocking_core.specs.Stores.{empty_store, free, with_more, without_first};
 
-    /// A store of nothing, for at most `capacity` items, whose pieces have `piece` items each. All its memory is taken here, for the capacity
-    /// and for a first piece that is partly gone, and where there isn't so much the answer is an [`AllocError`].
+    /// A store of nothing, for at most `capacity` items, whose pieces have `piece` items each. All its memory is taken here, for as many pieces
+    /// as the capacity needs, and where there isn't so much the answer is an [`AllocError`].
     pub fn with_piece(alloc: Global, capacity: usize, piece: usize) -> Result<Self, AllocError>
         requires some { 0 < capacity }
         requires piece { 0 < piece }
         ensures { IfOk result (λ memory. ⟦<LendingStore as Store<X>>⟧.held memory ≡ empty_store capacity) }
     {
-        // (more than can be counted is more than there is)
-        let Some(most) = capacity.checked_add(piece) else {
+        // (places are counted from the front of the first piece, and more than can be counted is more than there is)
+        if capacity.checked_add(piece).is_none() {
             return Err(AllocError);
-        };
-        let count = most.div_ceil(piece);
+        }
+        let count = capacity.div_ceil(piece);
         let pieces = HeapCircularBuffer::with_capacity(alloc, count)?;
         Ok(LendingMemory {
             pieces,
@@ -117,6 +163,20 @@ impl<X: Copy> LendingMemory<X> {
         piece[at % self.piece]
     }
 
+    // Makes a place behind the last item, where one fits: then the last piece has room or a piece is spent. Neither is so only where a part of the
+    // first piece is gone, and all others are full. Items move then, which takes longer the more there are.
+    fn make_place(&mut self)
+        requires { 0 < free (⟦<LendingStore as Store<X>>⟧.held self.old) }
+        ensures items { ⟦<LendingStore as Store<X>>⟧.held self.new ≡ ⟦<LendingStore as Store<X>>⟧.held self.old }
+        ensures place { (self.new.gone + self.new.len) % self.new.piece ≡ 0 → 0 < length self.new.spent.items }
+    {
+        if !self.spent.is_empty() || (self.gone + self.len) % self.piece > 0 {
+            return;
+        }
+        close_up(&mut self.pieces, self.gone, self.piece);
+        self.gone = 0;
+    }
+
     // Copies the first of the items, for all of which there is room, into the last piece, as many as fit into it, and tells how many they were:
     // one at least.
     fn append(&mut self, items: &[X]) -> usize
@@ -126,6 +186,7 @@ impl<X: Copy> LendingMemory<X> {
         ensures within { result ≤ length items.now }
         ensures items { ⟦<LendingStore as Store<X>>⟧.held self.new ≡ with_more (take result items.now) (⟦<LendingStore as Store<X>>⟧.held self.old) }
     {
+        self.make_place();
         let total = self.gone + self.len;
         let mut last = take_last(&mut self.pieces, &mut self.spent, self.piece, total);
         let count = items.len().min(self.piece - last.len());
@@ -139,17 +200,19 @@ impl<X: Copy> LendingMemory<X> {
         count
     }
 
-    // Whether a piece of so many items may come in as it is: a whole one behind whole ones only, since places are counted by pieces.
+    // Whether a piece of so many items may come in as it is: a whole one behind whole ones only, since places are counted by pieces, and for one
+    // that is spent.
     fn may_exchange(&self, count: usize) -> bool
-        ensures { OnTrue result ((count ≡ self.now.piece) × ((self.now.gone + self.now.len) % self.now.piece ≡ 0)) }
+        ensures { OnTrue result ((count ≡ self.now.piece) × ((self.now.gone + self.now.len) % self.now.piece ≡ 0) × (0 < length self.now.spent.items)) }
     {
-        count == self.piece && (self.gone + self.len) % self.piece == 0
+        count == self.piece && (self.gone + self.len) % self.piece == 0 && !self.spent.is_empty()
     }
 
     // Takes a whole piece as it is, and leaves a spent one in its place.
     fn exchange(&mut self, piece: &mut Vec<X>)
         requires whole { length piece.old.items ≡ self.old.piece }
         requires behind { (self.old.gone + self.old.len) % self.old.piece ≡ 0 }
+        requires spare { 0 < length self.old.spent.items }
         requires room { length piece.old.items ≤ free (⟦<LendingStore as Store<X>>⟧.held self.old) }
         ensures items { ⟦<LendingStore as Store<X>>⟧.held self.new ≡ with_more piece.old.items (⟦<LendingStore as Store<X>>⟧.held self.old) }
         ensures room { self.old.piece ≤ vec_capacity piece.new }
@@ -212,7 +275,9 @@ impl<X: Copy> Store<X> for LendingStore {
     ghost held = { λ memory. record { items = drop memory.gone (flat_map vec_items memory.pieces.items); capacity = memory.capacity } };
 
     fn new(alloc: Global, capacity: usize) -> Result<LendingMemory<X>, AllocError> {
-        LendingMemory::with_piece(alloc, capacity, capacity.min(PIECE))
+        // (as short as so many pieces may be: fewer places than there are pieces stay over)
+        let pieces = capacity.div_ceil(PIECE);
+        LendingMemory::with_piece(alloc, capacity, capacity.div_ceil(pieces))
     }
 
     fn len(memory: &LendingMemory<X>) -> usize {
@@ -228,6 +293,7 @@ impl<X: Copy> Store<X> for LendingStore {
     }
 
     fn push(memory: &mut LendingMemory<X>, item: X) {
+        memory.make_place();
         let total = memory.gone + memory.len;
         let mut last = take_last(&mut memory.pieces, &mut memory.spent, memory.piece, total);
         last.push_reserved(item);

@@ -9,7 +9,7 @@ const LISTS: u64 = 2500;
 
 const CALLS: usize = 24;
 
-const CAPACITIES: &[usize] = &[1, 2, 3, 7];
+const CAPACITIES: &[usize] = &[1, 2, 3, 6, 7];
 
 // Numbers that follow from a seed, each from the one before.
 #[derive(Drop)]

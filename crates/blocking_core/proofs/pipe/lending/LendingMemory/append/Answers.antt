@@ -1,18 +1,12 @@
 use Rattle.std.proofs.Common.{◌≡◌, ◌++◌, take, drop, flat_map, vec_items, vec_capacity, ap, ◌∙◌}
 use Rattle.std.proofs.Common.{arith}
 use Rattle.std.proofs.lemmas.List.{length-take-le}
-use Rattle.blocking_core.proofs.Lending.{spare_left, appended, memory_put}
+use Rattle.blocking_core.proofs.Lending.{appended, memory_put}
 use Rattle.blocking_core.proofs.pipe.lending.LendingMemory.append.Goals as goal
-
-pub take_last-last-requires-clause-spare : goal.take_last-last-requires-clause-spare
-take_last-last-requires-clause-spare g c =
-    let s = c.args.self.now in
-    spare_left vec_items s.pieces.items s.spent.items s.piece s.gone s.len s.capacity s.row s.count
-    s.enough (omega (arith, c.requires.some, c.requires.room))
 
 pub invariant_of-self-clause-row : goal.invariant_of-self-clause-row
 invariant_of-self-clause-row g c =
-    let s = c.args.self.now in
+    let s = c.make_place.new.self in
     let count = c.min-count.result in
     let more = take count c.args.items.now in
     let cut = c.take_last-last.ensures.last in
@@ -26,7 +20,7 @@ invariant_of-self-clause-row g c =
 
 pub invariant_of-self-clause-memory : goal.invariant_of-self-clause-memory
 invariant_of-self-clause-memory g c =
-    let s = c.args.self.now in
+    let s = c.make_place.new.self in
     let spent = c.take_last-last.new.spent in
     let before = c.take_last-last.new.pieces in
     rw c.in-Ok-try_push_back.ensures.ok
@@ -37,7 +31,7 @@ invariant_of-self-clause-memory g c =
 
 pub returns-clause-items : goal.returns-clause-items
 returns-clause-items g c =
-    let s = c.args.self.now in
+    let s = c.make_place.new.self in
     let count = c.min-count.result in
     let more = take count c.args.items.now in
     let cut = c.take_last-last.ensures.last in
@@ -48,4 +42,7 @@ returns-clause-items g c =
     ∙ (appended vec_items s.pieces.items c.take_last-last.new.pieces.items c.take_last-last.result
     c.extend_from_slice.new.self more s.piece s.gone s.len count
     cut put (length-take-le count c.args.items.now (omega arith)) (omega arith) (omega arith)).1 in
-    λ i. record { items = items i; capacity = s.capacity }
+    let said = c.make_place.ensures.items in
+    let all = items ∙ ap (λ stored. stored.items ++ more) said in
+    let capacity = ap (λ stored. stored.capacity) said in
+    λ i. record { items = all i; capacity = capacity i }

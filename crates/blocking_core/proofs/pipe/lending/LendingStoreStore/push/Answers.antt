@@ -1,17 +1,11 @@
-use Rattle.std.proofs.Common.{◌∷◌, [], drop, flat_map, vec_items, vec_capacity, ap, ◌∙◌, refl}
+use Rattle.std.proofs.Common.{◌++◌, ◌∷◌, [], drop, flat_map, vec_items, vec_capacity, ap, ◌∙◌, refl}
 use Rattle.std.proofs.Common.{arith}
-use Rattle.blocking_core.proofs.Lending.{spare_left, appended, memory_put}
+use Rattle.blocking_core.proofs.Lending.{appended, memory_put}
 use Rattle.blocking_core.proofs.pipe.lending.LendingStoreStore.push.Goals as goal
-
-pub take_last-last-requires-clause-spare : goal.take_last-last-requires-clause-spare
-take_last-last-requires-clause-spare g c =
-    let s = c.args.memory.now in
-    spare_left vec_items s.pieces.items s.spent.items s.piece s.gone s.len s.capacity s.row s.count
-    s.enough (omega (arith, c.requires))
 
 pub invariant_of-memory-clause-row : goal.invariant_of-memory-clause-row
 invariant_of-memory-clause-row g c =
-    let s = c.args.memory.now in
+    let s = c.make_place.new.self in
     let cut = c.take_last-last.ensures.last in
     let left = cut.less in
     rw c.in-Ok.ensures.ok
@@ -21,7 +15,7 @@ invariant_of-memory-clause-row g c =
 
 pub invariant_of-memory-clause-memory : goal.invariant_of-memory-clause-memory
 invariant_of-memory-clause-memory g c =
-    let s = c.args.memory.now in
+    let s = c.make_place.new.self in
     let spent = c.take_last-last.new.spent in
     let before = c.take_last-last.new.pieces in
     rw c.in-Ok.ensures.ok
@@ -32,11 +26,14 @@ invariant_of-memory-clause-memory g c =
 
 pub returns : goal.returns
 returns g c =
-    let s = c.args.memory.now in
+    let s = c.make_place.new.self in
     let cut = c.take_last-last.ensures.last in
     let left = cut.less in
     let items = ap (λ b. drop s.gone (flat_map vec_items b.items)) c.in-Ok.ensures.ok
     ∙ (appended vec_items s.pieces.items c.take_last-last.new.pieces.items c.take_last-last.result
     c.push_reserved.new.self (c.args.item ∷ []) s.piece s.gone s.len 1
     cut c.push_reserved.ensures.items refl (omega arith) (omega arith)).1 in
-    λ i. record { items = items i; capacity = s.capacity }
+    let said = c.make_place.ensures.items in
+    let all = items ∙ ap (λ stored. stored.items ++ c.args.item ∷ []) said in
+    let capacity = ap (λ stored. stored.capacity) said in
+    λ i. record { items = all i; capacity = capacity i }
