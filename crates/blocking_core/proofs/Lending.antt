@@ -264,7 +264,8 @@ module _ {V X : Type 0} (items_of : V → List X) where
             (omega (arith, more, length-take-le (length pieces - 1) pieces (omega arith))) in
             let same = get_or-take (length pieces - 1) pieces k v (omega (arith, more))
             ∙ get_or_from_slice_get pieces k v v at in
-            let long : length (items_of v) ≡ piece = ap (λ w. length (items_of w)) (sym same) ∙ here in
+            let long : length (items_of v) ≡ piece = ap (λ w. length (items_of w)) (sym same)
+            ∙ here in
             omega (arith, long, small)
         | inr last ↦
             let before = length_front pieces k piece total row (slice_get_within pieces k v at) in

@@ -76,8 +76,8 @@ impl<X: Drop, R: PlaceRule<X>, S: Store<X>, H: Wait + Copy> SendEnd<X, R, S, H> 
         })
     }
 
-    /// Looks for room for items, of which `put` may use as much as is told. The job is seated where there is none, and is told `Shut` where
-    /// the owner's end is closed. Once this end is closed what is told is of no use: `put` and `send` send nothing more.
+    /// Looks for room for items; `put` may use as much as is reported. Where there is none the job is seated; where the owner's end is
+    /// closed the answer is `Shut`. Once this end is closed, `put` and `send` send nothing.
     ///
     /// ```rust
     /// match self.end.room_or_seat(me) {

@@ -33,7 +33,7 @@ pub struct Files<H: Runtime, J: Job = FileJob<H>> {
 }
 
 impl<H: Host> Files<H> {
-    /// A pool whose threads are had by `rt`, and whose calls ask `system`. The setting is the text of a limit of its threads, as for any
+    /// A pool whose threads are started by `rt`, and whose calls ask `system`. The setting is the text of a limit of its threads, as for any
     /// executor; None is the limit of 500.
     ///
     /// `Memory` where there was none for it, and `NoWorker` where a thread couldn't be had.

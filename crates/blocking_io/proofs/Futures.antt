@@ -1,5 +1,5 @@
--- What the trait of futures asks of a poll, where a future promises at most how many bytes there are
--- in its output and waits for no source of its own.
+-- What the trait of futures asks of a poll, where a future promises at most how many bytes there
+-- are in its output and waits for no source of its own.
 use Rattle.std.specs.Prelude.{◌≡◌, ℕ, ◌≤◌, Result, IfOk, ⊤}
 use Rattle.std.proofs.Common.{subst}
 use Rattle.futures.specs.Poll.{IfReady, OnPending}

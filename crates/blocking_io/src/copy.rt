@@ -41,7 +41,7 @@ impl fmt::Display for CopyFault {
 
 impl Error for CopyFault {}
 
-/// So that a `?` passes it on where errors of the system go, as it does the fault inside. Which side failed isn't told any more.
+/// So that a `?` passes it on where errors of the system go, as it does the fault inside. The error no longer says which side failed.
 impl From<CopyFault> for io::Error {
     ghost use Rattle.blocking_core.specs.Faults.{IsToldAs};
     ghost use Rattle.blocking_io.specs.CopyFaults.{fault_of};

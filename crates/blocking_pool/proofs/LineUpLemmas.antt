@@ -121,7 +121,8 @@ module _ (spots : List Spot) (first known : Known) (places : List ℕ) (next : O
                   found.0,
                   by_eq found.0 place (λ b. (b || is_in found.0 (rest_after place places)) ≡ true
                       → is_in found.0 (rest_after place places) ≡ true)
-                      (λ e _. absurd (n (sym found.2 ∙ ap (client_by spots) e ∙ own))) (λ differs t. t)
+                      (λ e _. absurd (n (sym found.2 ∙ ap (client_by spots) e ∙ own)))
+                      (λ differs t. t)
                       (subst (λ ps. is_in found.0 ps ≡ true) (ap (λ n. from_on n places) at_it)
                       found.1),
                   found.2,

@@ -378,7 +378,8 @@ module _ {J : Type 0} where
         running = sound.running ∙ ap (λ n. pool.counts.idle + n)
             (sym (running_same pool.jobs (amend pool.jobs serial entry_after_requeue)
             pool.next_serial (λ s. elim (cases_eq s serial) [
-              | inl same ↦ ap is_running_job (ap (get (amend pool.jobs serial entry_after_requeue)) same
+              | inl same ↦ ap is_running_job
+                  (ap (get (amend pool.jobs serial entry_after_requeue)) same
                   ∙ amend_same pool.jobs serial entry_after_requeue job found)
                   ∙ sym (ap is_running_job (ap (get pool.jobs) same ∙ found) ∙ ap is_running parked)
               | inr far ↦ ap is_running_job (amend_other pool.jobs serial entry_after_requeue s far)

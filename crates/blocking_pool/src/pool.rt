@@ -155,8 +155,8 @@ impl<J: Job> Pool<J> {
 
     /// A worker takes the first ready job, and the pool grows by those that are ready then; or no job is ready. A job that
     /// was cancelled, or that bears a mark, is handed out to be dropped, and counts as one of its client's that run until
-    /// its turn ends. A queued job of a client without room, cancelled or marked as it may be, isn't taken until the client
-    /// has room: one of its turns has ended, or the client limit was raised or let go.
+    /// its turn ends. A queued job isn't taken until its client has room, even if it is cancelled or marked. Room comes where
+    /// a turn of the client ends, or the client limit is raised or removed.
     pub fn take<S: Starter>(&mut self, pass: WorkerPass, starter: &mut S) -> Took<J>
         requires { self.old.counts.arriving < self.old.counts.idle }
         ensures answer { Takes J.may_answer (asked S.Starter starter.old starter.new)

@@ -1,7 +1,8 @@
 //! The threads of an executor as a machine of atomic steps, without threads: what each does between two sections under a lock.
 //!
 //! A step is one atomic act of a thread, or one section under the pool's lock. docs/SCHEDULE.md reads the machine and its theorems
-//! aloud. The code of the threads (`blocking_executor`, `blocking_sync`) names the step at each place where it takes one.
+//! aloud. The code of the threads names the step at each place where it takes one: in `blocking_executor`, `blocking_sync`,
+//! `blocking_ends`, `blocking_unblock` and `blocking_unblock_jobs`.
 #![tactic(auto)]
 
 mod counts;

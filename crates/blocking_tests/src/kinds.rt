@@ -83,6 +83,7 @@ impl CallOn<Few> for Give {
 
 type All<H> = Jobs<H, Give, Few, Few, Few, Few, Give, Few>;
 
+// Whether a call is answered by a pool of all kinds.
 fn call<J: Job + Carries<CallJob<Give, H>>, H: Host>(
     rt: H,
     pool: &Executor<J, H>,
@@ -94,6 +95,7 @@ fn call<J: Job + Carries<CallJob<Give, H>>, H: Host>(
     Ok(block_on(&rt, task)? == 5)
 }
 
+// Whether a handle lent to a pool of all kinds is read to its end.
 fn read<J: Job + Carries<ReadJob<Few, H>>, H: Host>(
     rt: H,
     pool: &Executor<J, H>,
@@ -104,6 +106,7 @@ fn read<J: Job + Carries<ReadJob<Few, H>>, H: Host>(
     Ok(matches!(count, Ok(3)) && bytes.as_slice() == [0, 1, 2].as_slice())
 }
 
+// The same of one that is written to and flushed.
 fn write<J: Job + Carries<WriteJob<Few, H>>, H: Host>(
     rt: H,
     pool: &Executor<J, H>,
@@ -114,7 +117,8 @@ fn write<J: Job + Carries<WriteJob<Few, H>>, H: Host>(
     Ok(matches!(count, Ok(4)) && flushed.is_ok())
 }
 
-fn next<J: Job + Carries<ItemJob<Few, u8, H>>, H: Host>(
+// The same of one that gives its next item.
+fn item<J: Job + Carries<ItemJob<Few, u8, H>>, H: Host>(
     rt: H,
     pool: &Executor<J, H>,
 ) -> io::Result<bool> {
@@ -123,6 +127,7 @@ fn next<J: Job + Carries<ItemJob<Few, u8, H>>, H: Host>(
     Ok(matches!(first, Some(Ok(3))))
 }
 
+// The same of one that is moved.
 fn seek<J: Job + Carries<SeekJob<Few, H>>, H: Host>(
     rt: H,
     pool: &Executor<J, H>,
@@ -132,7 +137,8 @@ fn seek<J: Job + Carries<SeekJob<Few, H>>, H: Host>(
     Ok(matches!(place, Ok(9)))
 }
 
-fn operate<J: Job + Carries<OpJob<Give, Few, H>>, H: Host>(
+// The same of one that is operated on.
+fn op<J: Job + Carries<OpJob<Give, Few, H>>, H: Host>(
     rt: H,
     pool: &Executor<J, H>,
 ) -> io::Result<bool> {
@@ -147,8 +153,8 @@ fn jobs_of_each_kind_are_carried(rt: HostRuntime) -> Result<(), Fail> {
     assert!(rt; call(rt, &pool)?);
     assert!(rt; read(rt, &pool)?);
     assert!(rt; write(rt, &pool)?);
-    assert!(rt; next(rt, &pool)?);
+    assert!(rt; item(rt, &pool)?);
     assert!(rt; seek(rt, &pool)?);
-    assert!(rt; operate(rt, &pool)?);
+    assert!(rt; op(rt, &pool)?);
     Ok(())
 }

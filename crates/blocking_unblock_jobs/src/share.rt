@@ -130,7 +130,7 @@ pub fn new_share<T: Drop, X: Drop, H: Wait + AllocGlobal + Copy>(
 }
 
 impl<T: Drop, X: Drop, H: Wait + Copy> WayBack<T, X, H> {
-    /// Sets the mark of the session, which stays set and takes no lock: its owner is gone.
+    /// Sets the session's mark, which nothing clears. It takes no lock. An owner calls it as it leaves.
     pub fn mark(&self) {
         self.share.mark.store(true, Ordering::SeqCst);
     }

@@ -39,8 +39,8 @@ fn reads_all<H: Host, A: AsyncRead>(rt: H, owner: &mut A) -> io::Result<Option<V
     })
 }
 
-// The handle, taken back for good.
-fn taken_back<T: Drop, J: Job, H: Host>(
+// Takes the handle back for good; None where the owner is closed.
+fn take_back<T: Drop, J: Job, H: Host>(
     rt: H,
     owner: Unblock<T, (), J, H>,
 ) -> io::Result<Option<T>> {
@@ -60,7 +60,7 @@ fn reads_back<J: Job + Carries<ReadJob<Bytes, H>>, H: Host>(
 ) -> io::Result<bool> {
     let mut owner = Unblock::new(executor, reader);
     let read = reads_all(rt, &mut owner);
-    let back = taken_back(rt, owner)?;
+    let back = take_back(rt, owner)?;
     Ok(match (read?, back) {
         (Some(read), Some(reader)) => reader.get_ref().as_slice() == read.as_slice(),
         _ => false,
@@ -92,7 +92,7 @@ fn writes_back<J: Job + Carries<WriteJob<Vec<u8>, H>>, H: Host>(
 ) -> io::Result<bool> {
     let mut owner = Unblock::new(executor, Vec::new(rt.alloc()));
     let is_taken = writes_all(rt, &mut owner, bytes);
-    let back = taken_back(rt, owner)?;
+    let back = take_back(rt, owner)?;
     Ok(match back {
         Some(written) => is_taken? && written.as_slice() == bytes,
         None => false,

@@ -250,7 +250,7 @@ fn iterator_is_asked_again_after_its_end(rt: HostRuntime) -> Result<(), Fail> {
     Ok(())
 }
 
-// What a stream answers that is refused, and whether the iterator is back.
+// What a stream answers whose session is refused, and whether the iterator is back.
 fn refused_of<S: Gives>(
     alloc: Global,
     mut owner: S,

@@ -48,7 +48,8 @@ end_answer past s = end_of (turn past s) (is_to_drop past s) (is_woken past s) s
 -- limit, or the wait timed out and no job is queued.
 abbrev pub must_stop : ℕ → List Moment → Moment → WaitEnd → Bool
 must_stop setting past now end =
-    nat_lt (limit setting (now ∷ past)) (workers past + now.event.started) || has_timed_out end && length (queue (now ∷ past)) == 0
+    nat_lt (limit setting (now ∷ past)) (workers past + now.event.started)
+    || has_timed_out end && length (queue (now ∷ past)) == 0
 
 -- what is seen of a wait that ended so, by whether the worker stops
 abbrev pub wait_act : ℕ → WaitEnd → Bool → Act

@@ -5,7 +5,9 @@ use Rattle.blocking_core.specs.declared.io.Fault.{Fault}
 use Rattle.blocking_core.specs.declared.io.Fault.TheVariants.{Io, WriteZero}
 use Rattle.blocking_core.specs.declared.io.Position.{Position}
 use Rattle.blocking_world_laws.specs.declared.event.Act.{Act}
-use Rattle.blocking_world_laws.specs.declared.event.Act.TheVariants.{RoomFree, RoomShut, Answered, Put, Lost, Peeked, Drained, Taken as TakenOut, JobClosed, ResultPut, Finished, GaveUp}
+use Rattle.blocking_world_laws.specs.declared.event.Act.TheVariants.{RoomFree, RoomShut, Answered, Put, Lost, Peeked, Drained}
+use Rattle.blocking_world_laws.specs.declared.event.Act.TheVariants.{Taken as TakenOut, JobClosed}
+use Rattle.blocking_world_laws.specs.declared.event.Act.TheVariants.{ResultPut, Finished, GaveUp}
 use Rattle.blocking_world_laws.specs.declared.event.HolderWaker.{HolderWaker}
 use Rattle.blocking_world_laws.specs.declared.event.HolderWaker.TheVariants.{Taken, Absent}
 use Rattle.blocking_world_laws.specs.declared.step.Answer.{Answer}

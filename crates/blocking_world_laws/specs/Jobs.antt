@@ -8,7 +8,10 @@ use Rattle.blocking_pool.specs.declared.pool.standing.Standing.TheVariants.{Queu
 use Rattle.blocking_pool.specs.declared.pool.standing.Standing.TheVariants.{Done, Dropped}
 use Rattle.blocking_world_laws.specs.Seen.{joined, is_owner, is_task, has_timed_out}
 use Rattle.blocking_world_laws.specs.declared.event.Act.{Act}
-use Rattle.blocking_world_laws.specs.declared.event.Act.TheVariants.{Made, Accepted, JobWoken, JobCancelled, Took, TookDropped, Ended, Swept, Stays, Stopped, HolderDropped, TaskCancelled}
+use Rattle.blocking_world_laws.specs.declared.event.Act.TheVariants.{Made, Accepted, JobWoken}
+use Rattle.blocking_world_laws.specs.declared.event.Act.TheVariants.{JobCancelled, Took}
+use Rattle.blocking_world_laws.specs.declared.event.Act.TheVariants.{TookDropped, Ended, Swept}
+use Rattle.blocking_world_laws.specs.declared.event.Act.TheVariants.{Stays, Stopped, HolderDropped, TaskCancelled}
 use Rattle.blocking_world_laws.specs.declared.event.Event.{Event}
 use Rattle.blocking_world_laws.specs.declared.event.Moment.{Moment}
 use Rattle.blocking_world_laws.specs.declared.event.Party.{Party}

@@ -78,7 +78,8 @@ Works cut action act = IsAnswerTo action act
 -- over, and then it takes the waker of its owner where one is seated in its slot.
 abbrev pub JobActs : List Event → ℕ → Kind → Act → Type 0
 JobActs cut s kind (GaveUp waker) =
-    (is_dropped (own cut) ≡ true) × (is_over (next_but_wake kind (acts_of s cut)) ≡ false) × (waker ≡ waker_in (slot_seat cut))
+    (is_dropped (own cut) ≡ true) × (is_over (next_but_wake kind (acts_of s cut)) ≡ false)
+    × (waker ≡ waker_in (slot_seat cut))
 JobActs cut s kind act = Works cut (next_of_job kind (acts_of s cut)) act
 
 -- a job of the owner acts, and no other one

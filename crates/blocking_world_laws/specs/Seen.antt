@@ -109,7 +109,8 @@ task_cut k s seen = filter (λ e. is_by_task k e || is_of_job s e) seen
 -- whether an event is of this owner or of one of its jobs: none that the pool decides, and
 -- something was done
 abbrev pub is_in_cut : ℕ → Event → Bool
-is_in_cut h e = not (is_of_pool e.act) && not (is_nothing e.act) && (is_owner h e.party || is_some_worker e.party && is_this h e.owner)
+is_in_cut h e = not (is_of_pool e.act) && not (is_nothing e.act)
+    && (is_owner h e.party || is_some_worker e.party && is_this h e.owner)
 
 -- The cut of an owner: the events of the owner and of its jobs. The laws of an owner see nothing
 -- else.

@@ -3,7 +3,8 @@ use Rattle.std.specs.Prelude.{◌≡◌, ℕ, ◌+◌, nat_lt, ◌&&◌, ◌||�
 use Rattle.std.specs.Prelude.{false, List, [], ◌∷◌, length, filter, Option, Some, None, is_some}
 use Rattle.std.specs.Prelude.{is_none}
 use Rattle.blocking_pool.specs.declared.pool.answer.Refusal.TheVariants.{Memory}
-use Rattle.blocking_world_laws.specs.Seen.{events, acts_of, acts_of_task, acts_of_owner, is_of_pool, is_nothing}
+use Rattle.blocking_world_laws.specs.Seen.{events, acts_of, acts_of_task, acts_of_owner, is_of_pool}
+use Rattle.blocking_world_laws.specs.Seen.{is_nothing}
 use Rattle.blocking_world_laws.specs.Jobs.{tasks, holder, as_owner}
 use Rattle.blocking_world_laws.specs.Counts.{starts, arrivals}
 use Rattle.blocking_world_laws.specs.Turns.{Turn, GoesOn, IsWaiting, MustGiveUp, HasGivenUp, turn}

@@ -139,7 +139,7 @@ impl Tickets {
         }
     }
 
-    // A new job of this client is added, and its number or why it is refused comes back.
+    // Adds a new job of this client. Answers its number or why it was refused, and how the pool grew. For `Crew::add`.
     pub(crate) fn add<S: Starter>(
         &mut self,
         client: u32,

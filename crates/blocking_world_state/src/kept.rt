@@ -39,8 +39,8 @@ pub fn each_step()
         Steps (IsPlanned plan) step w e new → length (bytes_of e.act) ≤ bytes_to_come w step }
 {}
 
-/// Whatever a copier's step does to lawful parts, and whatever is only told: they stay lawful, with its moment added to what was seen; and
-/// their setting stays.
+/// Whatever a copier's step does to lawful parts, and whatever is only reported: they stay lawful, with its moment added to what was seen;
+/// and their setting stays.
 pub fn each_copier_step()
     ensures lawful { (setting : ℕ) (plan : List Bool) (w new : Parts) (past : List Moment)
         (asked : Step) (who : Party) (act : Act) (e : Event) → IsLawful setting plan w past →

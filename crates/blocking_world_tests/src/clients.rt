@@ -3,7 +3,7 @@ use crate::row::PlainStep::{
     Arrive, AskRead, Clients, End, Gives, Io, Job, Late, NewFor, OfTask, Own, Spawn, SpawnFor,
     Strike, Take,
 };
-use crate::row::{Place, PlainStep, counts, sees};
+use crate::row::{Place, PlainStep, check_step, counts};
 use blocking_world::World;
 use blocking_world_laws::step::TaskCall::Drop;
 use std::alloc::Global;
@@ -161,7 +161,7 @@ fn all_hold(alloc: Global, world: &mut World, row: &Row) -> Result<(), Fail> {
             row: row.name,
             lines,
         };
-        sees(alloc, world, place, *step, text)?;
+        check_step(alloc, world, place, *step, text)?;
     }
     let (workers, idle, queued) = row.end;
     if counts(world) != (workers, idle, queued, Some(4)) {

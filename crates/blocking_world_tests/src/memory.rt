@@ -4,7 +4,7 @@ use crate::row::PlainStep::{
     Arrive, AskNext, AskRead, AskSeek, AskWrite, End, Flushed, Gives, GivesItem, HasNoItem, Io,
     Job, Late, New, OfTask, Own, Spawn, Take,
 };
-use crate::row::{Place, PlainStep, agree, counts, sees};
+use crate::row::{Place, PlainStep, agree, check_step, counts};
 use blocking_core::io::Position;
 use blocking_core::pool::Refusal;
 use blocking_world::{World, cut, run};
@@ -31,11 +31,11 @@ fn asks_again(
     owner: usize,
     asked: PlainStep,
 ) -> Result<(), Fail> {
-    sees(alloc, world, place(0), Own(owner), told(asked))?;
+    check_step(alloc, world, place(0), Own(owner), told(asked))?;
     if world.poll_under_way(owner) {
         return Err(Fail::new("an owner polls that was told"));
     }
-    sees(alloc, world, place(0), asked, "asked")
+    check_step(alloc, world, place(0), asked, "asked")
 }
 
 // How the world stands, as far as it can be asked: its counts, and whether its first owner polls and its first worker's job has a next

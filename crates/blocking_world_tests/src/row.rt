@@ -105,8 +105,8 @@ pub(crate) fn counts(world: &World) -> (usize, usize, usize, Option<usize>) {
     )
 }
 
-// This step has one event, of this text.
-pub(crate) fn sees(
+// Takes this step, and fails where its one event has another text.
+pub(crate) fn check_step(
     alloc: Global,
     world: &mut World,
     place: Place,

@@ -2,7 +2,7 @@
 use crate::row::PlainStep::{
     Arrive, AskFlush, AskWrite, End, Flushed, Io, Job, Late, New, OfTask, Own, Spawn, Take,
 };
-use crate::row::{Place, PlainStep, sees};
+use crate::row::{Place, PlainStep, check_step};
 use blocking_world::World;
 use blocking_world_laws::step::TaskCall::Poll;
 use std::alloc::Global;
@@ -75,7 +75,7 @@ fn all_hold(alloc: Global, world: &mut World, lines: &[Line]) -> Result<(), Fail
             row: "who may act",
             lines: count,
         };
-        sees(alloc, world, place, *step, text)?;
+        check_step(alloc, world, place, *step, text)?;
         if world.poll_under_way(0) != *is_polled || world.has_job_action(1) != *has_action {
             return Err(Fail::new(format_args!("others may act, after {count} lines: {text}")));
         }

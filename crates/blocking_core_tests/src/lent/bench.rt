@@ -425,6 +425,7 @@ impl Bench {
         }
     }
 
+    // Does the next action of the job, of whichever kind; what was seen of it.
     fn take_job_action(&mut self) -> Seen {
         match self.next() {
             Next::Read(action) => self.read_on(action),

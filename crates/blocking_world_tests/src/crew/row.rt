@@ -151,6 +151,7 @@ fn all_seen_with<L: Ledger>(
     all_seen(alloc, crew, row.name, row.lines, &mut starter)
 }
 
+// Plays a row's calls, with the starts of its plan. For `play`.
 fn all_seen_by_plan(alloc: Global, crew: &mut Crew, row: &Row) -> Result<(), Fail> {
     all_seen_with::<Brand>(alloc, crew, row, row.plan, Blank::new(1))
 }

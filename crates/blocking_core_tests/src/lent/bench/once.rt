@@ -43,14 +43,15 @@ impl Bench {
     }
 
     pub(super) fn operate_on(&mut self, action: OpAction) -> Seen {
-        let (answer, seen) = self.take_operation_action(action);
+        let (answer, seen) = self.take_op_action(action);
         if let Core::Operating(core) = &mut self.core {
             core.answer(answer);
         }
         seen
     }
 
-    fn take_operation_action(&mut self, action: OpAction) -> (OpAnswer, Seen) {
+    // Does what the op core names; its answer, and what was seen.
+    fn take_op_action(&mut self, action: OpAction) -> (OpAnswer, Seen) {
         match action {
             OpAction::Call => self.operate(),
             OpAction::PutResult => {
