@@ -17,8 +17,11 @@ pub(crate) fn log_to<H: Host>(rt: H, file: File) -> io::Result<Log<H>> {
 
 /// Logs a line, which is in the file then.
 pub(crate) fn log_line<H: Host>(rt: H, log: &Log<H>, line: &str) -> io::Result<()> {
-    let mut log = log.lock(&rt);
-    block_on(&rt, log.write_all(line.as_bytes()))??;
-    block_on(&rt, log.flush())??;
+    write_line(&rt, &mut log.lock(&rt), line)
+}
+
+fn write_line<H: Host>(rt: &H, log: &mut OpenWriter<File, H>, line: &str) -> io::Result<()> {
+    block_on(rt, log.write_all(line.as_bytes()))??;
+    block_on(rt, log.flush())??;
     Ok(())
 }
