@@ -1,5 +1,5 @@
 -- What contracts see of the job of an iterator, and what each of its steps does.
-use Rattle.std.specs.Prelude.{◌+◌, ◌≡◌, ℕ, Bool, Option, Some, None, IsSome, refl}
+use Rattle.std.specs.Prelude.{◌+◌, ◌≡◌, ℕ, Bool, true, Option, Some, None, IsSome, refl}
 use Rattle.std.specs.Coded.{Coded, code_by, coded×, coded_bool, coded_ℕ, coded_option}
 use Rattle.blocking_core.specs.Machines.{Machine}
 use Rattle.blocking_core.specs.Items.{item_next, item_after}
@@ -13,24 +13,29 @@ use Rattle.blocking_pool.specs.declared.pool.job.JobStep.{JobStep}
 use Rattle.blocking_pool.specs.declared.pool.job.JobStep.TheVariants as step
 
 -- the job of an iterator: what it does next, its iterator until that is given back, the item in its
--- hand, and how many it has sent
+-- hand, how many it has sent, and whether its end said of one that it isn't sent
 pub record ItemSeen (T I : Type 0) : Type 0 where
   pub core : Machine ItemAction
   pub iterator : Option T
   pub hand : Option I
   pub sent : ℕ
+  pub is_unsent : Bool
 
 abbrev pub item_code : {T I : Type 0} → Coded T → Coded I → Coded (ItemSeen T I)
 item_code {T} {I} code item =
-    code_by (ItemAction × (Bool × (Option T × (Option I × ℕ))))
-    (coded× the_row.coded
-    (coded× coded_bool (coded× (coded_option code) (coded× (coded_option item) coded_ℕ))))
-    (λ seen. (seen.core.next, (seen.core.is_waking, (seen.iterator, (seen.hand, seen.sent)))))
+    code_by (ItemAction × (Bool × (Option T × (Option I × (ℕ × Bool)))))
+    (coded× the_row.coded (coded× coded_bool
+    (coded× (coded_option code) (coded× (coded_option item) (coded× coded_ℕ coded_bool)))))
+    (λ seen. (
+      seen.core.next,
+      (seen.core.is_waking, (seen.iterator, (seen.hand, (seen.sent, seen.is_unsent)))),
+    ))
     (λ parts. record {
       core = record { next = parts.0; is_waking = parts.1.0 };
       iterator = parts.1.1.0;
       hand = parts.1.1.1.0;
-      sent = parts.1.1.1.1;
+      sent = parts.1.1.1.1.0;
+      is_unsent = parts.1.1.1.1.1;
     }) (λ _. refl)
 
 -- this is an answer to that action
@@ -64,15 +69,16 @@ module _ {T I : Type 0} where
   Gives next_gives _ item _ = ⊥
 
   -- What becomes of the iterator and of the item in hand: what the iterator gave is in hand, and
-  -- stays there until it is sent or nobody wants it; at the end none is in hand. Only a finish
-  -- gives the iterator away.
+  -- stays there until it is sent or the end says that it isn't; at the iterator's end none is in
+  -- hand. Only a finish gives the iterator away.
   abbrev pub Hands : (T → Option I → T → Type 0) → ItemAnswer → ItemSeen T I → ItemSeen T I → Type 0
   Hands next_gives by.Gave old new =
       Gives next_gives old.iterator new.hand new.iterator × IsSome new.hand
   Hands next_gives by.Ended old new =
       Gives next_gives old.iterator None new.iterator × (new.hand ≡ None)
   Hands next_gives (by.Sent woke) old new = (new.iterator ≡ old.iterator) × (new.hand ≡ None)
-  Hands next_gives by.Shut old new = (new.iterator ≡ old.iterator) × (new.hand ≡ None)
+  Hands next_gives by.Shut old new =
+      (new.iterator ≡ old.iterator) × (new.hand ≡ None) × (new.is_unsent ≡ true)
   Hands next_gives (by.Finished woke) old new = (new.iterator ≡ None) × (new.hand ≡ old.hand)
   Hands next_gives answer old new = (new.iterator ≡ old.iterator) × (new.hand ≡ old.hand)
 

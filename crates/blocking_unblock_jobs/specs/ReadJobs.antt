@@ -2,7 +2,7 @@
 use Rattle.std.specs.Prelude.{◌+◌, ◌≡◌, ◌<◌, ◌≤◌, ℕ, Bool, List, length, take, Option, Some, None}
 use Rattle.std.specs.Prelude.{IsSome, refl}
 use Rattle.std.specs.Coded.{Coded, code_by, coded×, coded_bool, coded_ℕ, coded_list, coded_option}
-use Rattle.std.specs.Io.KnownBytes.{Consumes, Keeps}
+use Rattle.std.specs.Io.KnownBytes.{Consumes, IsAtEnd, Keeps}
 use Rattle.std.specs.declared.io.Error.{Error}
 use Rattle.std.specs.contracts.io.Error.{the_row as error_row}
 use Rattle.blocking_core.specs.Machines.{Machine}
@@ -91,8 +91,8 @@ module _ {T : Type 0} where
   KeepsPlace was is = (is.sent ≡ was.sent) × (length is.piece ≡ length was.piece)
 
   -- What becomes of the reader at work and of its fault: what a read gives stands in front of the
-  -- piece, and is no more to come; one that fails gives nothing, and its fault is kept until the
-  -- reader is given back with it. What a put is answered to have put is what was sent. Nothing else
+  -- piece, and is no more to come; one that gives nothing has met the end; one that fails gives
+  -- nothing, and its fault is kept until the reader is given back with it. What a put is answered to have put is what was sent. Nothing else
   -- uses the reader or the fault or sends anything, and nothing but a read and a put
   -- changes the piece, which stays as long.
   abbrev pub Hands : (T → Option (List ℕ)) → ReadAction → ReadAnswer → ReadSeen T → ReadSeen T
@@ -103,7 +103,7 @@ module _ {T : Type 0} where
   Hands remaining (Read most) (by.Gave count) old new =
       Both old.work new.work (λ was is.
       Consumes (remaining was.reader) (remaining is.reader) (take count (take most is.piece))
-      × KeepsPlace was is)
+      × (count ≡ 0 → IsAtEnd (remaining is.reader)) × KeepsPlace was is)
       × (new.fault ≡ old.fault)
   Hands remaining (Read most) answer old new =
       Both old.work new.work (λ was is. Keeps (remaining was.reader) (remaining is.reader)
@@ -134,11 +134,11 @@ module _ {T : Type 0} where
   abbrev pub IsStepped : (T → Option (List ℕ)) → ReadSeen T → ReadSeen T → JobStep → Type 0
   IsStepped remaining old new told = IsSteppedBy remaining (read_next old.core) old new told
 
-  -- The job has what its next action is about: its reader at work until that is given back, and for
-  -- what it reads or puts room that was told and a piece that holds it.
+  -- The job has what its next action is about: its reader at work until that is given back, for what
+  -- it reads or puts room that was told and a piece that holds it, and one byte at least to read.
   abbrev pub Fits : ReadAction → Option (Reading T) → Type 0
   Fits FindRoom (Some work) = Unit {0}
-  Fits (Read most) (Some work) = (most ≤ work.room) × (most ≤ length work.piece)
+  Fits (Read most) (Some work) = (0 < most) × (most ≤ work.room) × (most ≤ length work.piece)
   Fits (Put count) (Some work) = (count ≤ work.room) × (count ≤ length work.piece)
   Fits Close (Some work) = Unit {0}
   Fits Finish (Some work) = Unit {0}

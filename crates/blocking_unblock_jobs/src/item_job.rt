@@ -1,12 +1,12 @@
 //! The job that runs an iterator ahead of an owner.
-ghost use Rattle.std.specs.Prelude.{◌≡◌, None, Some};
+ghost use Rattle.std.specs.Prelude.{◌≡◌, false, None, Some};
 ghost use Rattle.blocking_core.specs.declared.job.item.ItemAction.TheVariants.{Next, Send, Close, Finish, Deliver};
 ghost use Rattle.blocking_core.specs.Items.{new_item, item_next};
 
 use crate::share::{Given, MayFail, SessionShare};
 use blocking_core::job::{ItemAction, ItemAnswer, ItemCore};
 use blocking_core::pool::{Carries, Job, JobNo, JobStep};
-use blocking_ends::{AnyPlace, ItemSendEnd, ItemSending};
+use blocking_ends::{AnyPlace, ItemSendEnd, ItemSending, WhyUnsent};
 use blocking_sync::OwnerWaker;
 use std::marker::Model;
 use std::sync::{Arc, Wait};
@@ -30,6 +30,8 @@ pub struct ItemJob<T: Iterator<Item = I> + Drop, I: Drop, H: Wait + Copy> {
     // The item that the iterator gave, until it is sent.
     hand: Option<I>,
     end: ItemSendEnd<I, AnyPlace, H>,
+    // Why an item wasn't sent, which ends the session: only the end says so.
+    unsent: Option<WhyUnsent>,
     // That the iterator was given back.
     given: Option<Given<T>>,
     // The waker that was taken out of the owner's seat, and has to be called.
@@ -39,6 +41,7 @@ pub struct ItemJob<T: Iterator<Item = I> + Drop, I: Drop, H: Wait + Copy> {
 }
 
 impl<T: Iterator<Item = I> + Drop, I: Drop, H: Wait + Copy> Model for ItemJob<T, I, H> {
+    ghost use Rattle.std.specs.Prelude.{is_some};
     ghost use Rattle.blocking_unblock_jobs.specs.ItemJobs.{ItemSeen, item_code, Fits, HasClosed};
     ghost use Rattle.blocking_unblock_jobs.specs.Works.{IsKept};
 
@@ -46,7 +49,7 @@ impl<T: Iterator<Item = I> + Drop, I: Drop, H: Wait + Copy> Model for ItemJob<T,
 
     ghost coded = { item_code T.code I.code };
 
-    ghost view = { λ j. record { core = j.core; iterator = j.iterator; hand = j.hand; sent = j.end.sent } };
+    ghost view = { λ j. record { core = j.core; iterator = j.iterator; hand = j.hand; sent = j.end.sent; is_unsent = is_some j.unsent } };
 
     // (nothing is promised of an iterator after its end, so it is one that may always be asked)
     ghost invariant = { λ j. ((state : T) → T.can_next state)
@@ -66,13 +69,14 @@ impl<T: Iterator<Item = I> + Drop, I: Drop, H: Wait + Copy> ItemJob<T, I, H> {
         share: Arc<SessionShare<T, MayFail>>,
     ) -> ItemJob<T, I, H>
         requires { (state : T) → T.can_next state }
-        ensures { result ≡ record { core = new_item; iterator = Some iterator; hand = None; sent = end.sent } }
+        ensures { result ≡ record { core = new_item; iterator = Some iterator; hand = None; sent = end.sent; is_unsent = false } }
     {
         ItemJob {
             core: ItemCore::new(),
             iterator: Some(iterator),
             hand: None,
             end,
+            unsent: None,
             given: None,
             waker: None,
             share,
@@ -89,6 +93,7 @@ impl<T: Iterator<Item = I> + Drop, I: Drop, H: Wait + Copy> ItemJob<T, I, H> {
             iterator,
             hand: _,
             end: _,
+            unsent: _,
             given: _,
             waker: _,
             share: _,
@@ -134,7 +139,8 @@ impl<T: Iterator<Item = I> + Drop, I: Drop, H: Wait + Copy> ItemJob<T, I, H> {
                 self.core.answer(ItemAnswer::Parked);
                 JobStep::Waiting
             }
-            ItemSending::Unsent(_, _) => {
+            ItemSending::Unsent(_, why) => {
+                self.unsent = Some(why);
                 self.core.answer(ItemAnswer::Shut);
                 JobStep::Again
             }
@@ -191,6 +197,7 @@ impl<T: Iterator<Item = I> + Drop, I: Drop, H: Wait + Copy> Drop for ItemJob<T, 
             iterator,
             hand,
             end: _,
+            unsent: _,
             given: _,
             waker,
             share,
