@@ -1,14 +1,22 @@
 -- What the kit's traits ask of a writer, said by the polls of one of ours, with the proofs of their
 -- laws.
 use Rattle.std.proofs.Common.{◌≡◌, ◌⊎◌, ◌∙◌, ap, sym, subst, refl, ℕ, Bool, true, false, List, []}
-use Rattle.std.proofs.Common.{◌++◌, Ok, Err, append-nil}
+use Rattle.std.proofs.Common.{◌++◌, Result, Ok, Err, append-nil}
+use Rattle.std.specs.IoError.{error_kind}
 use Rattle.std.specs.declared.io.Error.{Error}
+use Rattle.std.specs.declared.io.ErrorKind.TheVariants.{BrokenPipe}
+use Rattle.futures.specs.declared.task.Poll.{Poll}
 use Rattle.futures.specs.declared.task.Poll.TheVariants.{Ready}
 use Rattle.blocking_core.specs.Faults.{IsToldAs}
 use Rattle.blocking_core.specs.declared.io.Fault.{Fault}
 use Rattle.blocking_io.specs.Copies.{Passes, all_written}
 use Rattle.blocking_io.specs.Polled.{WriterPoll, OfFlush, OfWrite}
 use Rattle.blocking_io.proofs.Passes.{passes_join, written_on}
+
+-- a write failed as one behind a shutdown does
+abbrev pub IsBroken : Poll (Result ℕ Error) → Type 0
+IsBroken told =
+    (error : Error) × (told ≡ Ready (Err error)) × (error_kind error ≡ BrokenPipe)
 
 module _ {A : Type 0} (writes : A → WriterPoll → A → Type 0) where
   -- polls of writes and flushes led from the one state to the other, and these are all bytes that
