@@ -4,4 +4,4 @@ mod Copies
 mod CopyBytes
 mod Futures
 pub mod Passes
-mod Wholes
+pub mod Wholes

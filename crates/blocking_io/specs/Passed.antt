@@ -9,7 +9,7 @@ use Rattle.futures.specs.declared.task.Poll.TheVariants.{Ready, Pending}
 use Rattle.blocking_core.specs.declared.io.Fault.{Fault}
 use Rattle.blocking_core.specs.declared.io.Fault.TheVariants.{Io, WriteZero, Refused}
 use Rattle.blocking_io.specs.Copies.{EndsRead, Passes, all_read, all_written}
-use Rattle.blocking_io.specs.Polled.{ReaderPoll, WriterPoll, OfFlush, OfRead, OfWrite}
+use Rattle.blocking_io.specs.Polled.{BytePoll, ReaderPoll, WriterPoll, OfFlush, OfRead, OfWrite}
 
 -- the fault is an error of this kind
 abbrev pub IsOfKind : ErrorKind → Fault Error → Type 0
@@ -31,6 +31,10 @@ module _ {A : Type 0} (reads : A → ReaderPoll → A → Type 0) where
   abbrev pub GaveAll : A → List ℕ → A → Type 0
   GaveAll old bytes new = (polls : List ReaderPoll) × Passes reads old polls new
       × (all_read polls ≡ bytes) × EndsRead polls
+
+  -- a read led to this state
+  abbrev pub WasRead : A → Type 0
+  WasRead new = (old : A) × (room : ℕ) × (poll : BytePoll) × reads old (OfRead room poll) new
 
   -- a read led to this state, and waits
   abbrev pub ReadWaits : A → Type 0

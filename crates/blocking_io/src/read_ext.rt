@@ -4,7 +4,7 @@ ghost use Rattle.std.specs.Io.{StartsWith};
 ghost use Rattle.std.specs.declared.io.ErrorKind.TheVariants.{OutOfMemory};
 ghost use Rattle.futures.specs.Poll.{IfReady, OnPending};
 ghost use Rattle.futures.specs.Task.{IsArmed, Keeps};
-ghost use Rattle.blocking_io.specs.Passed.{AddsTo, Gave, GaveAll, IsOfKind, ReadFailed, ReadWaits, StoppedShort};
+ghost use Rattle.blocking_io.specs.Passed.{AddsTo, Gave, GaveAll, IsOfKind, ReadFailed, ReadWaits, StoppedShort, WasRead};
 
 use crate::io::{AsyncRead, IoFault};
 use blocking_core::io::Fault;
@@ -219,6 +219,8 @@ fn append<A: AsyncRead>(
     ensures read { AddsTo (vec_items out.old) (vec_items out.new) (λ bytes. Gave A.reads reader.old bytes reader.new) }
     ensures all { IfReady result (λ r. IfOk r (λ n. n ≡ 0 → AddsTo (vec_items out.old) (vec_items out.new) (λ bytes. GaveAll A.reads reader.old bytes reader.new))) }
     ensures failed { IfReady result (λ r. IfErr r (λ why. ReadFailed A.reads why reader.new ⊎ IsOfKind OutOfMemory why)) }
+    ensures came { IfReady result (λ r. IfOk r (λ _. WasRead A.reads reader.new)) }
+    ensures asked { OnPending result (WasRead A.reads reader.new) }
     ensures armed { OnPending result (IsArmed cx.new) }
     ensures kept { Keeps cx.old cx.new }
 {
@@ -249,6 +251,7 @@ fn append_all<A: AsyncRead>(
     ensures within { start ≤ vec_len out.new }
     ensures count { IfReady result (λ r. IfOk r (λ n. vec_len out.new ≡ start + n)) }
     ensures read { AddsTo (vec_items out.old) (vec_items out.new) (λ bytes. Gave A.reads reader.old bytes reader.new) }
+    ensures asked { OnPending result (WasRead A.reads reader.new) }
     ensures all { IfReady result (λ r. IfOk r (λ _. AddsTo (vec_items out.old) (vec_items out.new) (λ bytes. GaveAll A.reads reader.old bytes reader.new))) }
     ensures failed { IfReady result (λ r. IfErr r (λ why. ReadFailed A.reads why reader.new ⊎ IsOfKind OutOfMemory why)) }
     ensures front { StartsWith (vec_items out.new) (vec_items out.old) }
@@ -274,7 +277,7 @@ impl<'a, A: AsyncRead> Future for ReadToEnd<'a, A> {
     ghost use Rattle.std.specs.declared.io.ErrorKind.TheVariants.{OutOfMemory};
     ghost use Rattle.futures.specs.Poll.{IfReady, OnPending};
     ghost use Rattle.futures.specs.Task.{IsArmed, Keeps};
-    ghost use Rattle.blocking_io.specs.Passed.{AddsTo, Gave, GaveAll, IsOfKind, ReadFailed};
+    ghost use Rattle.blocking_io.specs.Passed.{AddsTo, Gave, GaveAll, IsOfKind, ReadFailed, WasRead};
 
     ghost can_poll = { λ read. (A.closed read.reader.now → ⊥) × (read.start ≤ vec_len read.out.now) };
 
@@ -285,6 +288,7 @@ impl<'a, A: AsyncRead> Future for ReadToEnd<'a, A> {
         ensures read { AddsTo (vec_items self.old.out.now) (vec_items self.new.out.now) (λ bytes. Gave A.reads self.old.reader.now bytes self.new.reader.now) }
         ensures all { IfReady result (λ r. IfOk r (λ _. AddsTo (vec_items self.old.out.now) (vec_items self.new.out.now) (λ bytes. GaveAll A.reads self.old.reader.now bytes self.new.reader.now))) }
         ensures failed { IfReady result (λ r. IfErr r (λ why. ReadFailed A.reads why self.new.reader.now ⊎ IsOfKind OutOfMemory why)) }
+        ensures asked { OnPending result (WasRead A.reads self.new.reader.now) }
         ensures start { self.new.start ≡ self.old.start }
         ensures front { StartsWith (vec_items self.new.out.now) (vec_items self.old.out.now) }
         ensures again { OnPending result ((A.closed self.new.reader.now → ⊥) × (self.new.start ≤ vec_len self.new.out.now)) }

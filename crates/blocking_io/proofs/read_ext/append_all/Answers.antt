@@ -26,4 +26,5 @@ loop-preserved g c = (
   grind (arith, common_steps),
   search rules,
   adds_more g.A.AsyncRead.reads _ _ _ _ _ _ c.loop.invariant.4 c.append.ensures.read,
+  λ some. search rules,
 )
