@@ -17,7 +17,7 @@ use Rattle.blocking_io.specs.Copies.{is_ending, told_flush, told_poll, unwritten
 use Rattle.blocking_io.specs.CopySteps.{AnswersTo, IsWhole, IsWholeAt, StandsAt, is_over, rest_of}
 use Rattle.blocking_io.specs.Polled.{ReaderPoll, WriterPoll, OfFlush, OfRead, OfWrite}
 use Rattle.blocking_io.specs.declared.copy.Copier.{Copier}
-use Rattle.blocking_io.proofs.Passes.{assoc, passes_join, read_on, written_on}
+use Rattle.blocking_io.proofs.Passes.{assoc, passes_join, read_on, read_to_end_on, written_on}
 use Rattle.blocking_io.proofs.CopyBytes.{StaysPut, and_nothing, counted, flush_reads_no_more, given}
 use Rattle.blocking_io.proofs.CopyBytes.{is_done_reading, read_ends, read_goes_on, some_rest}
 use Rattle.blocking_io.proofs.CopyBytes.{stays_counted, stopped, taken, was_whole, whole_or_not}
@@ -31,13 +31,6 @@ flushed_on xs ys ends = (xs ++ ends.0, ap (λ l. xs ++ l) ends.1 ∙ sym (polls_
 
 and_no_reads : (xs : List ReaderPoll) → xs ++ [] ≡ xs
 and_no_reads xs = search (rules, common_steps)
-
-read_to_end_on : (xs ys : List ReaderPoll) → EndsRead ys → EndsRead (xs ++ ys)
-read_to_end_on xs ys ends =
-    (xs ++ ends.0, ends.1, ap (λ l. xs ++ l) ends.2 ∙ sym (polls_assoc xs ends.0 _))
-  where
-    polls_assoc : (xs ys zs : List ReaderPoll) → (xs ++ ys) ++ zs ≡ xs ++ (ys ++ zs)
-    polls_assoc xs ys zs = search (rules, common_steps)
 
 -- equations of lists, part by part
 by_parts : (a r r' w w' c : List ℕ) → r ≡ r' → w ≡ w' → a ++ r' ≡ w' ++ c → a ++ r ≡ w ++ c

@@ -4,3 +4,4 @@ mod Copies
 mod CopyBytes
 mod Futures
 pub mod Passes
+pub mod Wholes

@@ -115,6 +115,11 @@ module _ {A B : Type 0} (reads : A → ReaderPoll → A → Type 0)
   abbrev pub Reaches : Copier A B → Copier A B → Type 0
   Reaches old new = (answers : List (CopyAnswer Error)) × Runs old answers new
 
+  -- the same by one turn at least: this was the last
+  abbrev pub GoesOn : Copier A B → Copier A B → Type 0
+  GoesOn old new =
+      (mid : Copier A B) × (answer : CopyAnswer Error) × Reaches old mid × Turns mid answer new
+
   -- What a copier did from the one to the other, by the polls of its reader and its writer: what
   -- was written is a beginning of what was to be written and of what was read since, in order and
   -- once. Unless a write took nothing or failed, the rest is what is to be written yet, and only

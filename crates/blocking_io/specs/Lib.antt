@@ -1,4 +1,5 @@
 pub mod Copies
 pub mod CopyFaults
 pub mod CopySteps
+pub mod Passed
 pub mod Polled

@@ -249,7 +249,7 @@ impl<A: AsyncRead + Drop, B: AsyncWrite + Drop> Future for Copier<A, B> {
     ghost use Rattle.std.specs.Prelude.{false};
     ghost use Rattle.futures.specs.Poll.{IfReady, OnPending};
     ghost use Rattle.futures.specs.Task.{IsArmed, Keeps};
-    ghost use Rattle.blocking_io.specs.Copies.{Carries, EndsWith, MayEnd, Reaches};
+    ghost use Rattle.blocking_io.specs.Copies.{Carries, EndsWith, GoesOn, MayEnd, Reaches};
     ghost use Rattle.blocking_io.specs.CopySteps.{is_over};
 
     ghost can_poll = { λ copy. (A.closed copy.reader → ⊥) × (B.closed copy.writer → ⊥) × (is_over copy.core.next ≡ false) };
@@ -259,6 +259,7 @@ impl<A: AsyncRead + Drop, B: AsyncWrite + Drop> Future for Copier<A, B> {
     fn poll(&mut self, cx: &mut Context<'_>) -> Poll<Result<u64, CopyFault>>
         requires { (A.closed self.old.reader → ⊥) × (B.closed self.old.writer → ⊥) × (is_over self.old.core.next ≡ false) }
         ensures reaches { Reaches A.reads B.writes self.old self.new }
+        ensures goes_on { GoesOn A.reads B.writes self.old self.new }
         ensures carries { Carries A.reads B.writes self.old self.new }
         ensures ends { IfReady result (λ out. EndsWith self.new.core.next out) }
         ensures going { OnPending result (is_over self.new.core.next ≡ false) }

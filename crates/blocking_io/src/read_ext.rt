@@ -1,8 +1,10 @@
 //! Whole reads as futures, so that a program needs no loop of polls.
-ghost use Rattle.std.specs.Prelude.{◌≡◌, ◌≤◌, ◌+◌, length, vec_items, vec_len, IfErr, IfOk};
+ghost use Rattle.std.specs.Prelude.{◌≡◌, ◌≤◌, ◌+◌, ◌⊎◌, length, slice_range, take, vec_items, vec_len, IfErr, IfOk};
 ghost use Rattle.std.specs.Io.{StartsWith};
+ghost use Rattle.std.specs.declared.io.ErrorKind.TheVariants.{OutOfMemory};
 ghost use Rattle.futures.specs.Poll.{IfReady, OnPending};
 ghost use Rattle.futures.specs.Task.{IsArmed, Keeps};
+ghost use Rattle.blocking_io.specs.Passed.{AddsTo, Gave, GaveAll, IsOfKind, ReadFailed, ReadWaits, StoppedShort, WasRead};
 
 use crate::io::{AsyncRead, IoFault};
 use blocking_core::io::Fault;
@@ -135,6 +137,11 @@ fn fill<A: AsyncRead>(
     ensures open { A.closed reader.new → ⊥ }
     ensures within { filled.new ≤ length buf.new }
     ensures whole { IfReady result (λ r. IfOk r (λ _. filled.new ≡ length buf.new)) }
+    ensures onward { filled.old ≤ filled.new }
+    ensures front { take filled.old buf.new ≡ take filled.old buf.old }
+    ensures read { Gave A.reads reader.old (slice_range buf.new filled.old filled.new) reader.new }
+    ensures waits { OnPending result (ReadWaits A.reads reader.new) }
+    ensures fault { IfReady result (λ r. IfErr r (StoppedShort A.reads reader.old (slice_range buf.new filled.old filled.new) reader.new)) }
     ensures same_length { length buf.new ≡ length buf.old }
     ensures armed { OnPending result (IsArmed cx.new) }
     ensures kept { Keeps cx.old cx.new }
@@ -156,9 +163,10 @@ fn fill<A: AsyncRead>(
 impl<'a, A: AsyncRead> Future for ReadExact<'a, A> {
     type Output = Result<(), IoFault>;
 
-    ghost use Rattle.std.specs.Prelude.{◌≡◌, ◌≤◌, length, IfOk};
+    ghost use Rattle.std.specs.Prelude.{◌≡◌, ◌≤◌, length, slice_range, take, IfErr, IfOk};
     ghost use Rattle.futures.specs.Poll.{IfReady, OnPending};
     ghost use Rattle.futures.specs.Task.{IsArmed, Keeps};
+    ghost use Rattle.blocking_io.specs.Passed.{Gave, ReadWaits, StoppedShort};
 
     ghost can_poll = { λ read. (A.closed read.reader.now → ⊥) × (read.filled ≤ length read.buf.now) };
 
@@ -166,6 +174,11 @@ impl<'a, A: AsyncRead> Future for ReadExact<'a, A> {
         requires { (A.closed self.old.reader.now → ⊥) × (self.old.filled ≤ length self.old.buf.now) }
         ensures open { A.closed self.new.reader.now → ⊥ }
         ensures whole { IfReady result (λ r. IfOk r (λ _. self.new.filled ≡ length self.new.buf.now)) }
+        ensures onward { self.old.filled ≤ self.new.filled }
+        ensures front { take self.old.filled self.new.buf.now ≡ take self.old.filled self.old.buf.now }
+        ensures read { Gave A.reads self.old.reader.now (slice_range self.new.buf.now self.old.filled self.new.filled) self.new.reader.now }
+        ensures waits { OnPending result (ReadWaits A.reads self.new.reader.now) }
+        ensures fault { IfReady result (λ r. IfErr r (StoppedShort A.reads self.old.reader.now (slice_range self.new.buf.now self.old.filled self.new.filled) self.new.reader.now)) }
         ensures same_length { length self.new.buf.now ≡ length self.old.buf.now }
         ensures again { OnPending result ((A.closed self.new.reader.now → ⊥) × (self.new.filled ≤ length self.new.buf.now)) }
         ensures armed { OnPending result (IsArmed cx.new) }
@@ -203,6 +216,11 @@ fn append<A: AsyncRead>(
     ensures front { StartsWith (vec_items out.new) (vec_items out.old) }
     ensures waits { OnPending result (vec_items out.new ≡ vec_items out.old) }
     ensures fault { IfReady result (λ r. IfErr r (λ _. vec_items out.new ≡ vec_items out.old)) }
+    ensures read { AddsTo (vec_items out.old) (vec_items out.new) (λ bytes. Gave A.reads reader.old bytes reader.new) }
+    ensures all { IfReady result (λ r. IfOk r (λ n. n ≡ 0 → AddsTo (vec_items out.old) (vec_items out.new) (λ bytes. GaveAll A.reads reader.old bytes reader.new))) }
+    ensures failed { IfReady result (λ r. IfErr r (λ why. ReadFailed A.reads why reader.new ⊎ IsOfKind OutOfMemory why)) }
+    ensures came { IfReady result (λ r. IfOk r (λ _. WasRead A.reads reader.new)) }
+    ensures asked { OnPending result (WasRead A.reads reader.new) }
     ensures armed { OnPending result (IsArmed cx.new) }
     ensures kept { Keeps cx.old cx.new }
 {
@@ -232,6 +250,10 @@ fn append_all<A: AsyncRead>(
     ensures open { A.closed reader.new → ⊥ }
     ensures within { start ≤ vec_len out.new }
     ensures count { IfReady result (λ r. IfOk r (λ n. vec_len out.new ≡ start + n)) }
+    ensures read { AddsTo (vec_items out.old) (vec_items out.new) (λ bytes. Gave A.reads reader.old bytes reader.new) }
+    ensures asked { OnPending result (WasRead A.reads reader.new) }
+    ensures all { IfReady result (λ r. IfOk r (λ _. AddsTo (vec_items out.old) (vec_items out.new) (λ bytes. GaveAll A.reads reader.old bytes reader.new))) }
+    ensures failed { IfReady result (λ r. IfErr r (λ why. ReadFailed A.reads why reader.new ⊎ IsOfKind OutOfMemory why)) }
     ensures front { StartsWith (vec_items out.new) (vec_items out.old) }
     ensures armed { OnPending result (IsArmed cx.new) }
     ensures kept { Keeps cx.old cx.new }
@@ -250,10 +272,12 @@ fn append_all<A: AsyncRead>(
 impl<'a, A: AsyncRead> Future for ReadToEnd<'a, A> {
     type Output = Result<usize, IoFault>;
 
-    ghost use Rattle.std.specs.Prelude.{◌≡◌, ◌≤◌, ◌+◌, vec_items, vec_len, IfOk};
+    ghost use Rattle.std.specs.Prelude.{◌≡◌, ◌≤◌, ◌+◌, ◌⊎◌, vec_items, vec_len, IfErr, IfOk};
     ghost use Rattle.std.specs.Io.{StartsWith};
+    ghost use Rattle.std.specs.declared.io.ErrorKind.TheVariants.{OutOfMemory};
     ghost use Rattle.futures.specs.Poll.{IfReady, OnPending};
     ghost use Rattle.futures.specs.Task.{IsArmed, Keeps};
+    ghost use Rattle.blocking_io.specs.Passed.{AddsTo, Gave, GaveAll, IsOfKind, ReadFailed, WasRead};
 
     ghost can_poll = { λ read. (A.closed read.reader.now → ⊥) × (read.start ≤ vec_len read.out.now) };
 
@@ -261,6 +285,10 @@ impl<'a, A: AsyncRead> Future for ReadToEnd<'a, A> {
         requires { (A.closed self.old.reader.now → ⊥) × (self.old.start ≤ vec_len self.old.out.now) }
         ensures open { A.closed self.new.reader.now → ⊥ }
         ensures count { IfReady result (λ r. IfOk r (λ n. vec_len self.new.out.now ≡ self.old.start + n)) }
+        ensures read { AddsTo (vec_items self.old.out.now) (vec_items self.new.out.now) (λ bytes. Gave A.reads self.old.reader.now bytes self.new.reader.now) }
+        ensures all { IfReady result (λ r. IfOk r (λ _. AddsTo (vec_items self.old.out.now) (vec_items self.new.out.now) (λ bytes. GaveAll A.reads self.old.reader.now bytes self.new.reader.now))) }
+        ensures failed { IfReady result (λ r. IfErr r (λ why. ReadFailed A.reads why self.new.reader.now ⊎ IsOfKind OutOfMemory why)) }
+        ensures asked { OnPending result (WasRead A.reads self.new.reader.now) }
         ensures start { self.new.start ≡ self.old.start }
         ensures front { StartsWith (vec_items self.new.out.now) (vec_items self.old.out.now) }
         ensures again { OnPending result ((A.closed self.new.reader.now → ⊥) × (self.new.start ≤ vec_len self.new.out.now)) }

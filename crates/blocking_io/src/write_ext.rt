@@ -1,7 +1,8 @@
 //! Whole writes as futures, so that a program needs no loop of polls.
-ghost use Rattle.std.specs.Prelude.{◌≡◌, ◌≤◌, false, length, IfOk};
+ghost use Rattle.std.specs.Prelude.{◌≡◌, ◌≤◌, false, List, [], length, slice_range, IfOk};
 ghost use Rattle.futures.specs.Poll.{IfReady, OnPending};
 ghost use Rattle.futures.specs.Task.{IsArmed, Keeps};
+ghost use Rattle.blocking_io.specs.Passed.{FlushedSo, StoppedBy, TellsFault, Took};
 
 use crate::io::{AsyncWrite, IoFault};
 use blocking_core::io::Fault;
@@ -141,7 +142,10 @@ fn hand_on<A: AsyncWrite>(
     requires within { taken.old ≤ length bytes.now }
     ensures open { A.closed writer.new → ⊥ }
     ensures within { taken.new ≤ length bytes.now }
+    ensures onward { taken.old ≤ taken.new }
     ensures whole { IfReady result (λ r. IfOk r (λ has_failed. has_failed ≡ false → taken.new ≡ length bytes.now)) }
+    ensures written { Took A.writes writer.old (slice_range bytes.now taken.old taken.new) writer.new }
+    ensures stopped { StoppedBy A.writes result writer.new }
     ensures armed { OnPending result (IsArmed cx.new) }
     ensures kept { Keeps cx.old cx.new }
 {
@@ -160,6 +164,9 @@ fn hand_on<A: AsyncWrite>(
 fn tell_fault<A: AsyncWrite>(writer: &mut A, cx: &mut Context<'_>) -> Poll<IoFault>
     requires { A.closed writer.old → ⊥ }
     ensures open { A.closed writer.new → ⊥ }
+    ensures written { Took A.writes writer.old [] writer.new }
+    ensures waits { OnPending result (FlushedSo A.writes Poll.Pending writer.new) }
+    ensures fault { IfReady result (λ why. TellsFault A.writes why writer.new) }
     ensures armed { OnPending result (IsArmed cx.new) }
     ensures kept { Keeps cx.old cx.new }
 {
@@ -173,9 +180,10 @@ fn tell_fault<A: AsyncWrite>(writer: &mut A, cx: &mut Context<'_>) -> Poll<IoFau
 impl<'a, A: AsyncWrite> Future for WriteAll<'a, A> {
     type Output = Result<(), IoFault>;
 
-    ghost use Rattle.std.specs.Prelude.{◌≡◌, ◌≤◌, length, IfOk};
+    ghost use Rattle.std.specs.Prelude.{◌≡◌, ◌≤◌, ◌⊎◌, length, slice_range, Err, IfErr, IfOk};
     ghost use Rattle.futures.specs.Poll.{IfReady, OnPending};
     ghost use Rattle.futures.specs.Task.{IsArmed, Keeps};
+    ghost use Rattle.blocking_io.specs.Passed.{FlushedSo, TellsFault, Took, WroteSo};
 
     ghost can_poll = { λ write. (A.closed write.writer.now → ⊥) × (write.taken ≤ length write.bytes.now) };
 
@@ -183,6 +191,10 @@ impl<'a, A: AsyncWrite> Future for WriteAll<'a, A> {
         requires { (A.closed self.old.writer.now → ⊥) × (self.old.taken ≤ length self.old.bytes.now) }
         ensures open { A.closed self.new.writer.now → ⊥ }
         ensures whole { IfReady result (λ r. IfOk r (λ _. self.new.taken ≡ length self.new.bytes.now)) }
+        ensures onward { self.old.taken ≤ self.new.taken }
+        ensures written { Took A.writes self.old.writer.now (slice_range self.old.bytes.now self.old.taken self.new.taken) self.new.writer.now }
+        ensures waits { OnPending result (WroteSo A.writes Poll.Pending self.new.writer.now ⊎ FlushedSo A.writes Poll.Pending self.new.writer.now) }
+        ensures fault { IfReady result (λ r. IfErr r (λ why. WroteSo A.writes (Poll.Ready (Err why)) self.new.writer.now ⊎ TellsFault A.writes why self.new.writer.now)) }
         ensures same_bytes { self.new.bytes.now ≡ self.old.bytes.now }
         ensures again { OnPending result ((A.closed self.new.writer.now → ⊥) × (self.new.taken ≤ length self.new.bytes.now)) }
         ensures armed { OnPending result (IsArmed cx.new) }

@@ -36,6 +36,7 @@ module _ {W : Type 0} (writes : W → List ℕ → W → Type 0) (is_flushed : W
 
 module _ {W : Type 0} (writes : W → List ℕ → W → Type 0) (is_flushed : W → Type 0)
     (is_shut_down : W → Type 0) where
-  -- it was flushed, and then shut down, with nothing written between
-  abbrev pub ClosedBy : W → Type 0
-  ClosedBy new = (last : W) × is_flushed last × writes last [] new × is_shut_down new
+  -- it was flushed, and then shut down, with nothing written before or between
+  abbrev pub ClosedBy : W → W → Type 0
+  ClosedBy old new =
+      (last : W) × writes old [] last × is_flushed last × writes last [] new × is_shut_down new

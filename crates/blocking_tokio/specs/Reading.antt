@@ -1,19 +1,18 @@
 -- What the kit's traits ask of a reader, said by the polls of one of ours, with the proofs of their
 -- laws.
-use Rattle.std.proofs.Common.{◌≡◌, ◌∙◌, ap, refl, ℕ, ◌<◌, List, [], ◌++◌, Ok, Err}
+use Rattle.std.proofs.Common.{refl, ℕ, ◌<◌, List, [], ◌++◌, Ok, Err}
 use Rattle.std.specs.declared.io.Error.{Error}
 use Rattle.futures.specs.declared.task.Poll.TheVariants.{Ready}
 use Rattle.blocking_core.specs.Faults.{IsToldAs}
 use Rattle.blocking_core.specs.declared.io.Fault.{Fault}
-use Rattle.blocking_io.specs.Copies.{Passes, all_read}
+use Rattle.blocking_io.specs.Passed.{Gave}
 use Rattle.blocking_io.specs.Polled.{ReaderPoll, OfRead}
-use Rattle.blocking_io.proofs.Passes.{passes_join, read_on}
+use Rattle.blocking_io.proofs.Wholes.{gave_join}
 
 module _ {A : Type 0} (reads : A → ReaderPoll → A → Type 0) where
   -- polls led from the one state to the other, and these are all bytes that they gave, in order
   abbrev pub Gives : A → List ℕ → A → Type 0
-  Gives old bytes new =
-      (polls : List ReaderPoll) × Passes reads old polls new × (all_read polls ≡ bytes)
+  Gives old bytes new = Gave reads old bytes new
 
   -- a read with room for a byte led to this state, and gave none
   abbrev pub MetEnd : A → Type 0
@@ -29,8 +28,4 @@ module _ {A : Type 0} (reads : A → ReaderPoll → A → Type 0) where
 
   pub gives_in_order : (old : A) (xs : List ℕ) (mid : A) (ys : List ℕ) (new : A) → Gives old xs mid
       → Gives mid ys new → Gives old (xs ++ ys) new
-  gives_in_order old xs mid ys new first rest = (
-    first.0 ++ rest.0,
-    passes_join reads old mid new first.0 rest.0 first.1 rest.1,
-    read_on first.0 rest.0 ∙ (ap (λ l. l ++ all_read rest.0) first.2 ∙ ap (λ l. xs ++ l) rest.2),
-  )
+  gives_in_order old xs mid ys new first rest = gave_join reads old mid new xs ys first rest

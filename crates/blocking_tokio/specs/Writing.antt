@@ -1,28 +1,31 @@
 -- What the kit's traits ask of a writer, said by the polls of one of ours, with the proofs of their
 -- laws.
 use Rattle.std.proofs.Common.{◌≡◌, ◌⊎◌, ◌∙◌, ap, sym, subst, refl, ℕ, Bool, true, false, List, []}
-use Rattle.std.proofs.Common.{◌++◌, Ok, Err, append-nil}
+use Rattle.std.proofs.Common.{◌++◌, Result, Ok, Err, append-nil}
+use Rattle.std.specs.IoError.{error_kind}
 use Rattle.std.specs.declared.io.Error.{Error}
+use Rattle.std.specs.declared.io.ErrorKind.TheVariants.{BrokenPipe}
+use Rattle.futures.specs.declared.task.Poll.{Poll}
 use Rattle.futures.specs.declared.task.Poll.TheVariants.{Ready}
 use Rattle.blocking_core.specs.Faults.{IsToldAs}
 use Rattle.blocking_core.specs.declared.io.Fault.{Fault}
-use Rattle.blocking_io.specs.Copies.{Passes, all_written}
+use Rattle.blocking_io.specs.Passed.{Took}
 use Rattle.blocking_io.specs.Polled.{WriterPoll, OfFlush, OfWrite}
-use Rattle.blocking_io.proofs.Passes.{passes_join, written_on}
+use Rattle.blocking_io.proofs.Wholes.{took_join}
+
+-- a write failed as one behind a shutdown does
+abbrev pub IsBroken : Poll (Result ℕ Error) → Type 0
+IsBroken told =
+    (error : Error) × (told ≡ Ready (Err error)) × (error_kind error ≡ BrokenPipe)
 
 module _ {A : Type 0} (writes : A → WriterPoll → A → Type 0) where
-  -- polls of writes and flushes led from the one state to the other, and these are all bytes that
-  -- they took, in order
-  abbrev pub Took : A → List ℕ → A → Type 0
-  Took old bytes new =
-      (polls : List WriterPoll) × Passes writes old polls new × (all_written polls ≡ bytes)
-
-  -- The same of a writer that may be shut down on the way: what was shut stays so and takes nothing
-  -- more.
+  -- Polls of writes and flushes led from the one state to the other, and these are all bytes that
+  -- they took, in order. The writer may be shut down on the way: what was shut stays so and takes
+  -- nothing more.
   abbrev pub Takes : Bool → A → List ℕ → Bool → A → Type 0
   Takes true old bytes is_shut new = (bytes ≡ []) × (is_shut ≡ true)
   Takes false old bytes is_shut new =
-      (last : A) × Took old bytes last × (is_shut ≡ false → new ≡ last)
+      (last : A) × Took writes old bytes last × (is_shut ≡ false → new ≡ last)
 
   -- a flush that was done led to this state
   abbrev pub WasFlushed : A → Type 0
@@ -58,14 +61,6 @@ module _ {A : Type 0} (writes : A → WriterPoll → A → Type 0) where
     λ is_open. cc,
   )
   takes_in_order false old xs false mid ys is new first rest =
-      let Q : A → Type 0 = λ m. Passes writes m rest.1.0 rest.0 in (
-        rest.0,
-        (
-          first.1.0 ++ rest.1.0,
-          passes_join writes old first.0 rest.0 first.1.0 rest.1.0 first.1.1
-              (subst Q (first.2 refl) rest.1.1),
-          written_on first.1.0 rest.1.0
-              ∙ (ap (λ l. l ++ all_written rest.1.0) first.1.2 ∙ ap (λ l. xs ++ l) rest.1.2),
-        ),
-        rest.2,
-      )
+      let Q : A → Type 0 = λ m. Took writes m ys rest.0 in
+      let more = subst Q (first.2 refl) rest.1 in
+      (rest.0, took_join writes old first.0 rest.0 xs ys (xs ++ ys) first.1 more refl, rest.2)

@@ -58,8 +58,11 @@ impl<A: AsyncWrite + Drop> CompatWriter<A> {
 }
 
 impl<A: AsyncWrite + Drop> tokio::io::AsyncWrite for CompatWriter<A> {
-    ghost use Rattle.std.specs.Prelude.{◌⊎◌};
-    ghost use Rattle.blocking_tokio.specs.Writing.{Takes, takes_in_order, takes_nothing, TookNone, WasFlushed, WriteFails};
+    ghost use Rattle.std.specs.Prelude.{◌<◌, ◌≤◌, ◌⊎◌, List, [], length, Ok};
+    ghost use Rattle.futures.specs.Poll.{OnPending};
+    ghost use Rattle.futures.specs.Task.{Covers, Keeps};
+    ghost use Rattle.tokio.specs.Io.Moved.{IfReadyErr, OnReadyOk, bytes_moved, count_moved};
+    ghost use Rattle.blocking_tokio.specs.Writing.{IsBroken, Takes, takes_in_order, takes_nothing, TookNone, WasFlushed, WriteFails};
 
     ghost writes = { λ old bytes new. Takes A.writes old.is_shut old.inner bytes new.is_shut new.inner };
 
@@ -71,14 +74,30 @@ impl<A: AsyncWrite + Drop> tokio::io::AsyncWrite for CompatWriter<A> {
 
     ghost fails = { λ writer error. (writer.is_shut ≡ true) ⊎ WriteFails A.writes writer.inner error };
 
-    fn poll_write(&mut self, cx: &mut Context<'_>, buf: &[u8]) -> Poll<io::Result<usize>> {
+    fn poll_write(&mut self, cx: &mut Context<'_>, buf: &[u8]) -> Poll<io::Result<usize>>
+        ensures same { self.new.is_shut ≡ self.old.is_shut }
+        ensures shut { self.old.is_shut ≡ true → IsBroken result }
+        ensures bound { count_moved result ≤ length buf.now }
+        ensures bytes { Takes A.writes self.old.is_shut self.old.inner (bytes_moved result buf.now) self.new.is_shut self.new.inner }
+        ensures full { result ≡ Poll.Ready (Ok 0) → 0 < length buf.now → TookNone A.writes self.new.inner }
+        ensures failed { IfReadyErr result (λ error. (self.new.is_shut ≡ true) ⊎ WriteFails A.writes self.new.inner error) }
+        ensures registered { OnPending result (Covers cx.new (λ _. ⊥)) }
+        ensures kept { Keeps cx.old cx.new }
+    {
         if self.is_shut {
             return Poll::Ready(Err(io::Error::from(ErrorKind::BrokenPipe)));
         }
         as_error(self.inner.poll_write(cx, buf))
     }
 
-    fn poll_flush(&mut self, cx: &mut Context<'_>) -> Poll<io::Result<()>> {
+    fn poll_flush(&mut self, cx: &mut Context<'_>) -> Poll<io::Result<()>>
+        ensures same { self.new.is_shut ≡ self.old.is_shut }
+        ensures flushed { OnReadyOk result (WasFlushed A.writes self.new.inner) }
+        ensures bytes { Takes A.writes self.old.is_shut self.old.inner [] self.new.is_shut self.new.inner }
+        ensures failed { IfReadyErr result (λ error. (self.new.is_shut ≡ true) ⊎ WriteFails A.writes self.new.inner error) }
+        ensures registered { OnPending result (Covers cx.new (λ _. ⊥)) }
+        ensures kept { Keeps cx.old cx.new }
+    {
         as_error(self.inner.poll_flush(cx))
     }
 

@@ -68,10 +68,10 @@ impl<R: tokio::io::AsyncRead> AsyncRead for FromTokio<R> {
 }
 
 impl<W: tokio::io::AsyncWrite> AsyncWrite for FromTokio<W> {
-    ghost use Rattle.std.specs.Prelude.{IfOk, IfErr};
+    ghost use Rattle.std.specs.Prelude.{List, [], Ok, IfOk, IfErr};
     ghost use Rattle.futures.specs.Poll.{IfReady, OnPending};
     ghost use Rattle.futures.specs.Task.{IsArmed, Keeps};
-    ghost use Rattle.blocking_tokio.specs.FromKit.{ClosedBy, WrittenBy};
+    ghost use Rattle.blocking_tokio.specs.FromKit.{ClosedBy, IsOwn, WrittenBy};
 
     ghost closed = { λ writer. writer.is_closed ≡ true };
 
@@ -87,9 +87,10 @@ impl<W: tokio::io::AsyncWrite> AsyncWrite for FromTokio<W> {
 
     fn poll_close(&mut self, cx: &mut Context<'_>) -> Poll<Result<(), IoFault>>
         ensures closed { IfReady result (λ r. IfOk r (λ _. self.new.is_closed ≡ true)) }
-        ensures by { self.old.is_closed ≡ false → IfReady result (λ r. IfOk r (λ _. ClosedBy W.writes W.is_flushed W.is_shut_down self.new.inner)) }
-        ensures fault { IfReady result (λ r. IfErr r (λ _. self.new.is_closed ≡ false)) }
-        ensures waits { OnPending result (self.new.is_closed ≡ false) }
+        ensures again { self.old.is_closed ≡ true → (result ≡ Poll.Ready (Ok tt)) × (self.new ≡ self.old) }
+        ensures by { self.old.is_closed ≡ false → IfReady result (λ r. IfOk r (λ _. ClosedBy W.writes W.is_flushed W.is_shut_down self.old.inner self.new.inner)) }
+        ensures fault { IfReady result (λ r. IfErr r (λ why. (self.new.is_closed ≡ false) × W.writes self.old.inner [] self.new.inner × IsOwn (W.fails self.new.inner) why)) }
+        ensures waits { OnPending result ((self.new.is_closed ≡ false) × W.writes self.old.inner [] self.new.inner) }
         ensures armed { OnPending result (IsArmed cx.new) }
         ensures kept { Keeps cx.old cx.new }
     {

@@ -1,10 +1,17 @@
-use Rattle.std.proofs.Common.{[], refl}
+use Rattle.std.proofs.Common.{[], refl, arith}
 use Rattle.blocking_io.proofs.Carrying.{reaches_carry}
 use Rattle.blocking_io.proofs.Copies.{reaches_on, going_by}
 use Rattle.blocking_io.proofs.copy.CopierFuture.poll.Goals as goal
 
 pub loop-init : goal.loop-init
-loop-init g c = (([], refl), c.requires.0, c.requires.1, (λ fact held. held), c.requires.2)
+loop-init g c = (
+  ([], refl),
+  c.requires.0,
+  c.requires.1,
+  (λ fact held. held),
+  c.requires.2,
+  λ some. absurd (omega (arith, some)),
+)
 
 pub loop-preserved : goal.loop-preserved
 loop-preserved g c = (
@@ -14,6 +21,7 @@ loop-preserved g c = (
   c.turn.ensures.writer_open,
   (λ fact held. c.turn.ensures.kept fact (c.loop.invariant.3 fact held)),
   going_by c.next.result c.turn.new.self.core.next c.next.ensures c.in_default-next.not-Done,
+  λ some. (c.loop.self, c.turn.ensures.turns.0, c.loop.invariant.0, c.turn.ensures.turns.1),
 )
 
 pub returns-in-Pending-clause-reaches : goal.returns-in-Pending-clause-reaches
