@@ -1,10 +1,11 @@
 -- Whole reads and writes: where in a buffer the bytes stand that went by their polls.
 use Rattle.std.proofs.Common.{◌≡◌, ◌∙◌, ◌≤◌, ◌<◌, ◌+◌, ◌-◌, ◌++◌, ap, sym, refl, subst, rules}
 use Rattle.std.proofs.Common.{arith, ℕ, zero, suc, List, [], ◌∷◌, take, drop, drop_at, length}
-use Rattle.std.proofs.Common.{length-take-le, slice_range, append-nil, le_refl, IfOk, Result, Ok, Err}
+use Rattle.std.proofs.Common.{length-take-le, slice_range, append-nil, le_refl, IfOk, Result, Ok}
+use Rattle.std.proofs.Common.{Err}
 use Rattle.std.proofs.lemmas.Grind.{common_steps}
 use Rattle.std.proofs.lemmas.List.{drop-drop, length-drop, take-take}
-use Rattle.std.proofs.lemmas.Slice.{between_is, take-put_mid_below}
+use Rattle.std.proofs.lemmas.Slice.{between_is, between_to_end, take-put_mid_below}
 use Rattle.std.specs.declared.io.Error.{Error}
 use Rattle.futures.specs.Poll.{IfReady}
 use Rattle.futures.specs.declared.task.Poll.{Poll}
@@ -47,7 +48,7 @@ range_on xs from at count le =
     (drop-drop (at - from) from xs ∙ ap (λ n. drop n xs) there))
 
 rest_is_all : (xs : List ℕ) (at : ℕ) → slice_range xs at (length xs) ≡ drop at xs
-rest_is_all xs at = grind (arith, common_steps)
+rest_is_all xs at = between_to_end xs at (length xs) (le_refl (length xs))
 
 no_range : (xs : List ℕ) (at : ℕ) → slice_range xs at at ≡ []
 no_range xs at = grind (arith, common_steps)

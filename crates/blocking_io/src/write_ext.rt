@@ -180,7 +180,7 @@ fn tell_fault<A: AsyncWrite>(writer: &mut A, cx: &mut Context<'_>) -> Poll<IoFau
 impl<'a, A: AsyncWrite> Future for WriteAll<'a, A> {
     type Output = Result<(), IoFault>;
 
-    ghost use Rattle.std.specs.Prelude.{◌≡◌, ◌≤◌, ◌⊎◌, length, slice_range, Err, IfErr, IfOk};
+    ghost use Rattle.std.specs.Prelude.{◌≡◌, ◌≤◌, ◌⊎◌, true, [], length, slice_range, Ok, Err, IfErr, IfOk};
     ghost use Rattle.futures.specs.Poll.{IfReady, OnPending};
     ghost use Rattle.futures.specs.Task.{IsArmed, Keeps};
     ghost use Rattle.blocking_io.specs.Passed.{FlushedSo, TellsFault, Took, WroteSo};
@@ -193,8 +193,9 @@ impl<'a, A: AsyncWrite> Future for WriteAll<'a, A> {
         ensures whole { IfReady result (λ r. IfOk r (λ _. self.new.taken ≡ length self.new.bytes.now)) }
         ensures onward { self.old.taken ≤ self.new.taken }
         ensures written { Took A.writes self.old.writer.now (slice_range self.old.bytes.now self.old.taken self.new.taken) self.new.writer.now }
-        ensures waits { OnPending result (WroteSo A.writes Poll.Pending self.new.writer.now ⊎ FlushedSo A.writes Poll.Pending self.new.writer.now) }
-        ensures fault { IfReady result (λ r. IfErr r (λ why. WroteSo A.writes (Poll.Ready (Err why)) self.new.writer.now ⊎ TellsFault A.writes why self.new.writer.now)) }
+        ensures waits { OnPending result (WroteSo A.writes Poll.Pending self.new.writer.now ⊎ ((self.new.has_failed ≡ true) × FlushedSo A.writes Poll.Pending self.new.writer.now)) }
+        ensures fault { IfReady result (λ r. IfErr r (λ why. WroteSo A.writes (Poll.Ready (Err why)) self.new.writer.now ⊎ ((self.new.has_failed ≡ true) × TellsFault A.writes why self.new.writer.now))) }
+        ensures stopped { self.new.has_failed ≡ true → (self.old.has_failed ≡ true) ⊎ ((mid : A) × WroteSo A.writes (Poll.Ready (Ok [])) mid) }
         ensures same_bytes { self.new.bytes.now ≡ self.old.bytes.now }
         ensures again { OnPending result ((A.closed self.new.writer.now → ⊥) × (self.new.taken ≤ length self.new.bytes.now)) }
         ensures armed { OnPending result (IsArmed cx.new) }

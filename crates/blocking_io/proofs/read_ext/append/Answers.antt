@@ -1,4 +1,4 @@
-use Rattle.std.proofs.Common.{◌≡◌, ◌∙◌, ◌++◌, ap, sym, rules, arith, [], take, vec_items}
+use Rattle.std.proofs.Common.{◌≡◌, ◌∙◌, ◌++◌, ap, rules, arith, [], take, vec_items}
 use Rattle.std.proofs.lemmas.Grind.{common_steps}
 use Rattle.blocking_io.proofs.Wholes.{at_end, count_of, cut_behind, gave_once, met_end}
 use Rattle.blocking_io.proofs.read_ext.append.Given.{Over}
