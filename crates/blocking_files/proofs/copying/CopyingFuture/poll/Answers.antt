@@ -1,4 +1,4 @@
-use Rattle.std.proofs.Common.{◌≡◌, arith}
+use Rattle.std.proofs.Common.{◌≡◌, arith, rules}
 use Rattle.std.specs.Prelude.{Option, Some, None, Result, Ok, Err, IfSome, IfErr}
 use Rattle.futures.specs.declared.task.Poll.{Poll}
 use Rattle.futures.specs.declared.task.Poll.TheVariants.{Ready}
@@ -21,9 +21,9 @@ pub returns-in-Ready-clause-refused : goal.returns-in-Ready-clause-refused
 returns-in-Ready-clause-refused g c = λ none. elim c.if-is_none.branch [
   | then-is_none+in-Ready-Ok+in-Some-1 w ↦
       none_refused w.poll_open.result w.in-Ready-Ok.copier c.args.self.now.task.refused _
-      w.in-Ready-Ok.is w.poll_open.ensures.refused
+      (search rules) w.poll_open.ensures.refused
   | then-is_none+in-Ready-Ok+in-None-1 w ↦
       none_refused w.poll_open.result w.in-Ready-Ok.copier c.args.self.now.task.refused _
-      w.in-Ready-Ok.is w.poll_open.ensures.refused
+      (search rules) w.poll_open.ensures.refused
   | else-is_none w ↦ search rules
 ]
