@@ -62,10 +62,17 @@ pub type OpenItems<D, I, H, J = ItemJob<D, I, H>> = Open<D, I, J, H>;
 /// let second = block_on(&rt, file.read(&mut piece))??;
 /// let handle = block_on(&rt, file.into_inner())?;
 /// ```
-#[derive(Drop)]
 pub struct Open<T: Drop, I: Drop, J: Job, H: Runtime> {
     owner: Unblock<T, I, J, H>,
     ghost open: { IsClosed owner.place → ⊥ },
+}
+
+// (as a derive has it: by hand it is proved here once, and not in each crate that drops one)
+impl<T: Drop, I: Drop, J: Job, H: Runtime> Drop for Open<T, I, J, H> {
+    fn drop(self) {
+        let Open { owner } = self;
+        drop(owner);
+    }
 }
 
 impl<T: Drop, I: Drop, J: Job, H: Runtime> Open<T, I, J, H> {
