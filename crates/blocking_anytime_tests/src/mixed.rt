@@ -25,36 +25,24 @@ impl Call for Sum {
     }
 }
 
-fn sum_of<H: Host>(rt: &H, executor: &Executor<Work<H>, H>, bytes: &[u8]) -> io::Result<u64> {
-    let sum = Sum(Vec::from_slice(rt.alloc(), bytes)?);
-    Ok(block_on(rt, unblock(executor, sum)?)?)
-}
-
 /// Writes a line for each piece of the one file to the other, with its length and its sum, and gives the sum of all.
 pub(crate) fn sum_up<H: Host>(rt: H, from: File, to: File) -> io::Result<u64> {
     let executor: Executor<Work<H>, H> = Executor::new(rt, Some("3"))?;
     let mut from: OpenReader<File, H, Work<H>> = Open::new(executor.try_clone()?, from);
     let mut to: OpenWriter<File, H, Work<H>> = Open::new(executor.try_clone()?, to);
-    sum_pieces(&rt, &executor, &mut from, &mut to)
-}
-
-fn sum_pieces<H: Host>(
-    rt: &H,
-    executor: &Executor<Work<H>, H>,
-    from: &mut OpenReader<File, H, Work<H>>,
-    to: &mut OpenWriter<File, H, Work<H>>,
-) -> io::Result<u64> {
-    let (mut piece, mut total) = (vec![in rt.alloc(); 0u8; PIECE]?, 0u64);
+    let mut piece = vec![in rt.alloc(); 0u8; PIECE]?;
+    let mut total = 0u64;
     for _ in rt.forever() {
-        let count = block_on(rt, from.read(&mut piece))??;
+        let count = block_on(&rt, from.read(&mut piece))??;
         if count == 0 {
             break;
         }
-        let sum = sum_of(rt, executor, &piece[..count])?;
+        let bytes = Vec::from_slice(rt.alloc(), &piece[..count])?;
+        let sum = block_on(&rt, unblock(&executor, Sum(bytes))?)?;
         total = total.wrapping_add(sum);
         let line = format!(in rt.alloc(); "{count} {sum}\n")?;
-        block_on(rt, to.write_all(line.as_bytes()))??;
+        block_on(&rt, to.write_all(line.as_bytes()))??;
     }
-    block_on(rt, to.flush())??;
+    block_on(&rt, to.flush())??;
     Ok(total)
 }
