@@ -92,9 +92,9 @@ module _ {T : Type 0} where
 
   -- What becomes of the reader at work and of its fault: what a read gives stands in front of the
   -- piece, and is no more to come; one that gives nothing has met the end; one that fails gives
-  -- nothing, and its fault is kept until the reader is given back with it. What a put is answered to have put is what was sent. Nothing else
-  -- uses the reader or the fault or sends anything, and nothing but a read and a put
-  -- changes the piece, which stays as long.
+  -- nothing, and its fault is kept until the reader is given back with it. What a put is answered
+  -- to have put is what was sent. Nothing else uses the reader or the fault or sends anything, and
+  -- nothing but a read and a put changes the piece, which stays as long.
   abbrev pub Hands : (T → Option (List ℕ)) → ReadAction → ReadAnswer → ReadSeen T → ReadSeen T
       → Type 0
   Hands remaining FindRoom answer old new =
@@ -134,8 +134,9 @@ module _ {T : Type 0} where
   abbrev pub IsStepped : (T → Option (List ℕ)) → ReadSeen T → ReadSeen T → JobStep → Type 0
   IsStepped remaining old new told = IsSteppedBy remaining (read_next old.core) old new told
 
-  -- The job has what its next action is about: its reader at work until that is given back, for what
-  -- it reads or puts room that was told and a piece that holds it, and one byte at least to read.
+  -- The job has what its next action is about: its reader at work until that is given back, room
+  -- that was told and a piece that holds it for what it reads or puts, and one byte at least to
+  -- read.
   abbrev pub Fits : ReadAction → Option (Reading T) → Type 0
   Fits FindRoom (Some work) = Unit {0}
   Fits (Read most) (Some work) = (0 < most) × (most ≤ work.room) × (most ≤ length work.piece)
