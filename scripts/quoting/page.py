@@ -33,7 +33,7 @@ GROUPS = {
     },
     "blocking_world": {
         "worlds": "World run cut",
-        "steps": "Step HandleCall TaskCall Answer Bytes",
+        "steps": "Step HandleCall TaskCall HandleAnswer Bytes",
         "what is seen": "Moment Event Act Party Reply HolderWaker WaitEnd",
     },
 }

@@ -3,9 +3,10 @@ use Rattle.std.specs.Prelude.{ℕ, ◌==◌, Bool, List, [], ◌∷◌, codes, b
 use Rattle.std.specs.Prelude.{option_map, if◌then◌else◌}
 use Rattle.std.specs.List.{slice_split}
 use Rattle.std.specs.Option.{option_and_then}
-use Rattle.blocking_world_laws.specs.declared.step.Answer.{Answer}
-use Rattle.blocking_world_laws.specs.declared.step.Answer.TheVariants.{Number, Gave, Fine, Item}
-use Rattle.blocking_world_laws.specs.declared.step.Answer.TheVariants.{NoItem, Failed}
+use Rattle.blocking_world_laws.specs.declared.step.HandleAnswer.{HandleAnswer}
+use Rattle.blocking_world_laws.specs.declared.step.HandleAnswer.TheVariants.{Number, Gave}
+use Rattle.blocking_world_laws.specs.declared.step.HandleAnswer.TheVariants.{Fine, Item}
+use Rattle.blocking_world_laws.specs.declared.step.HandleAnswer.TheVariants.{NoItem, Failed}
 use Rattle.blocking_world_laws.specs.declared.step.HandleCall.{HandleCall}
 use Rattle.blocking_world_laws.specs.declared.step.HandleCall.TheVariants.{Read, Write, Flush}
 use Rattle.blocking_world_laws.specs.declared.step.HandleCall.TheVariants.{Close, Seek, Next}
@@ -101,7 +102,7 @@ plain_call name =
     else None))))))
 
 -- the answer that one word says
-abbrev pub plain_answer : List ℕ → Option Answer
+abbrev pub plain_answer : List ℕ → Option HandleAnswer
 plain_answer kind =
     if bytes_eq kind (codes "ok") then Some Fine
     else (if bytes_eq kind (codes "none") then Some NoItem
@@ -142,7 +143,7 @@ longer_call name word =
     else None))
 
 -- the answer that a word of its kind and its value say
-abbrev pub answer_of : List ℕ → List ℕ → Option Answer
+abbrev pub answer_of : List ℕ → List ℕ → Option HandleAnswer
 answer_of kind value =
     if bytes_eq kind (codes "n") then option_map Number (number_of 64 value)
     else (if bytes_eq kind (codes "b") then option_map Gave (bytes_of value)

@@ -5,7 +5,7 @@ ghost use Rattle.blk_commands.specs.Instructions.{actor_named, answer_of, client
 use crate::bytes::bytes_of;
 use crate::number::{count, number, small_number};
 use crate::position::position_of;
-use blocking_world::{Answer, Step, TaskCall};
+use blocking_world::{HandleAnswer, Step, TaskCall};
 use blocking_world_laws::HandleCall;
 use std::alloc::{AllocError, Global};
 
@@ -179,12 +179,12 @@ fn plain_call(name: &str) -> Option<HandleCall>
 }
 
 // The answer that one word says.
-fn plain_answer(kind: &str) -> Option<Answer>
+fn plain_answer(kind: &str) -> Option<HandleAnswer>
     ensures { result ≡ plain_answer kind.now }
 {
     match kind {
-        "ok" => Some(Answer::Fine),
-        "none" => Some(Answer::NoItem),
+        "ok" => Some(HandleAnswer::Fine),
+        "none" => Some(HandleAnswer::NoItem),
         _ => None,
     }
 }
@@ -247,14 +247,14 @@ fn longer_call(alloc: Global, name: &str, word: &str) -> Result<Option<HandleCal
 }
 
 // The answer that a word of its kind and its value say.
-fn answer_of(alloc: Global, kind: &str, value: &str) -> Result<Option<Answer>, AllocError>
+fn answer_of(alloc: Global, kind: &str, value: &str) -> Result<Option<HandleAnswer>, AllocError>
     ensures { IfOk result (λ answer. answer ≡ answer_of kind.now value.now) }
 {
     match kind {
-        "n" => Ok(number(value).map(Answer::Number)),
-        "b" => Ok(bytes_of(alloc, value)?.map(Answer::Gave)),
-        "item" => Ok(number(value).map(Answer::Item)),
-        "fault" => Ok(number(value).map(Answer::Failed)),
+        "n" => Ok(number(value).map(HandleAnswer::Number)),
+        "b" => Ok(bytes_of(alloc, value)?.map(HandleAnswer::Gave)),
+        "item" => Ok(number(value).map(HandleAnswer::Item)),
+        "fault" => Ok(number(value).map(HandleAnswer::Failed)),
         _ => Ok(None),
     }
 }

@@ -13,7 +13,7 @@ use std::sync::{Arc, Wait};
 
 // What the job holds for its next action.
 #[derive(Drop)]
-enum Stage<F: Drop, T: Drop> {
+enum CallStage<F: Drop, T: Drop> {
     Call(F),
     Finish(T),
     Deliver(OwnerWaker),
@@ -31,7 +31,7 @@ enum Stage<F: Drop, T: Drop> {
 /// ```
 pub struct CallJob<F: Call<Out: Drop> + Drop, H: Wait + Copy> {
     core: CallCore,
-    stage: Stage<F, F::Out>,
+    stage: CallStage<F, F::Out>,
     share: Arc<CallShare<F>>,
     rt: H,
 }
@@ -59,7 +59,7 @@ impl<F: Call<Out: Drop> + Drop, H: Wait + Copy> CallJob<F, H> {
     {
         CallJob {
             core: CallCore::new(),
-            stage: Stage::Call(call),
+            stage: CallStage::Call(call),
             share,
             rt,
         }
@@ -76,8 +76,8 @@ impl<F: Call<Out: Drop> + Drop, H: Wait + Copy> CallJob<F, H> {
             rt: _,
         } = self;
         match stage {
-            Stage::Call(call) => Some(call),
-            Stage::Finish(_) | Stage::Deliver(_) | Stage::Done => None,
+            CallStage::Call(call) => Some(call),
+            CallStage::Finish(_) | CallStage::Deliver(_) | CallStage::Done => None,
         }
     }
 
@@ -98,10 +98,10 @@ impl<F: Call<Out: Drop> + Drop, H: Wait + Copy> CallJob<F, H> {
         requires { self.old.next ≡ Action.Call }
         ensures { IsAnswered Action.Call self.new.next }
     {
-        let Stage::Call(call) = mem::replace(&mut self.stage, Stage::Done) else {
+        let CallStage::Call(call) = mem::replace(&mut self.stage, CallStage::Done) else {
             unreachable!()
         };
-        self.stage = Stage::Finish(call.call());
+        self.stage = CallStage::Finish(call.call());
         self.core.answer(Answer::Returned);
     }
 
@@ -109,7 +109,7 @@ impl<F: Call<Out: Drop> + Drop, H: Wait + Copy> CallJob<F, H> {
         requires { self.old.next ≡ Action.Finish }
         ensures { IsAnswered Action.Finish self.new.next }
     {
-        let Stage::Finish(value) = mem::replace(&mut self.stage, Stage::Done) else {
+        let CallStage::Finish(value) = mem::replace(&mut self.stage, CallStage::Done) else {
             unreachable!()
         };
         let Put { back, wake } = self.share.put(&self.rt, value);
@@ -117,7 +117,7 @@ impl<F: Call<Out: Drop> + Drop, H: Wait + Copy> CallJob<F, H> {
         drop(back);
         match wake {
             Some(waker) => {
-                self.stage = Stage::Deliver(waker);
+                self.stage = CallStage::Deliver(waker);
                 self.core.answer(Answer::Put { woke: true });
             }
             None => self.core.answer(Answer::Put { woke: false }),
@@ -128,7 +128,7 @@ impl<F: Call<Out: Drop> + Drop, H: Wait + Copy> CallJob<F, H> {
         requires { self.old.next ≡ Action.Deliver }
         ensures { IsAnswered Action.Deliver self.new.next }
     {
-        if let Stage::Deliver(Some(waker)) = mem::replace(&mut self.stage, Stage::Done) {
+        if let CallStage::Deliver(Some(waker)) = mem::replace(&mut self.stage, CallStage::Done) {
             // meeting: Call
             waker.wake();
         }

@@ -1,4 +1,4 @@
--- What crossed the pipe of a session by a turn of a poll, and by the whole poll.
+-- What crossed the pipe of a session by a round of a poll, and by the whole poll.
 use Rattle.std.proofs.Common.{◌≡◌, if◌then◌else◌, ◌⊎◌, ◌+◌, ◌<◌, ℕ, zero, suc, Bool, true, false}
 use Rattle.std.proofs.Common.{Option, Some, None, inl, inr, refl, sym, ap, ◌∙◌, subst, arith}
 use Rattle.blocking_core.specs.OwnerCalls.{OwnerMachine, table, in_own, in_session, stop}
@@ -32,7 +32,7 @@ use Rattle.blocking_unblock.specs.Owners.{crossed_before, goes_on}
 use Rattle.blocking_unblock.specs.Polls.{Kept, Starts, FitsAction, Stands, IsGoing, Does, Crossing}
 use Rattle.blocking_unblock.specs.Polls.{SawEnd}
 use Rattle.blocking_unblock.specs.declared.place.Place.{Place}
-use Rattle.blocking_unblock.proofs.Turns.{told, got_is, not_back}
+use Rattle.blocking_unblock.proofs.Rounds.{told, got_is, not_back}
 
 module _ {T I H : Type 0} (E : Type 0) (place : Place T I H) (before : ℕ) where
   -- a reply of no bytes says nothing of the pipe
@@ -177,7 +177,7 @@ module _ {T I H : Type 0} (E : Type 0) (place : Place T I H) (before : ℕ) wher
   sought_back call state at_end came (inr saw) from =
       absurd (saw_none call state at_end came saw from)
 
--- ---- a turn
+-- ---- a round
 
 module _ {T I H B : Type 0} (E : Type 0) (begins : B → State → Type 0) (keeps : B → Kept → Type 0)
     (was armed : Type 0) (old new : Place T I H) (brought : B) (before : ℕ) where
@@ -315,7 +315,7 @@ module _ {T I H B : Type 0} (E : Type 0) (begins : B → State → Type 0) (keep
     goes (act.Reply reply) answer noted going = absurd going
     goes act.Pending answer noted going = absurd going
 
-  -- A turn of a machine that stands.
+  -- A round of a machine that stands.
   crossed_on : (poll : OwnerMachine E) (answer : OwnerAnswer E) (noted : Bool) → IsGoing poll.next
       → Stands begins keeps was poll old brought
       → Does (begins brought) poll.next old answer noted new armed → At poll old

@@ -1,5 +1,5 @@
 mod Crossings
 mod Loans
 mod Replies
-mod Turns
+mod Rounds
 mod Quick

@@ -281,7 +281,7 @@ impl<T: Seek + Drop, I: Drop, J: Job + Carries<SeekJob<T, H>>, H: Runtime> Lends
 
 /// How far an operation is.
 #[derive(Drop)]
-pub(crate) enum Stage<F: Drop, S: Drop, R: Drop> {
+pub(crate) enum OperationStage<F: Drop, S: Drop, R: Drop> {
     /// Its session is still to begin.
     Given(F),
     /// It is with its job, and its result is waited for here.
@@ -295,7 +295,7 @@ pub(crate) enum Stage<F: Drop, S: Drop, R: Drop> {
 /// An operation on the handle, or what is left of it.
 #[derive(Drop)]
 pub(crate) struct ToOperate<F: CallOn<T, Out: Drop> + Drop, T: Drop, H: Wait + Copy> {
-    pub stage: Stage<F, ResultSeat<F, T, H>, F::Out>,
+    pub stage: OperationStage<F, ResultSeat<F, T, H>, F::Out>,
 }
 
 impl<F: CallOn<T, Out: Drop> + Drop, T: Drop, H: Wait + Copy> ToOperate<F, T, H> {
@@ -305,14 +305,14 @@ impl<F: CallOn<T, Out: Drop> + Drop, T: Drop, H: Wait + Copy> ToOperate<F, T, H>
     pub(crate) fn is_over(&self) -> bool
         ensures { result ≡ is_over self.now.stage }
     {
-        matches!(self.stage, Stage::Gave(_) | Stage::Taken)
+        matches!(self.stage, OperationStage::Gave(_) | OperationStage::Taken)
     }
 
     /// Whether its session began, and its result is waited for.
     pub(crate) fn has_begun(&self) -> bool
         ensures { result ≡ has_begun self.now.stage }
     {
-        matches!(self.stage, Stage::Begun(_))
+        matches!(self.stage, OperationStage::Begun(_))
     }
 }
 
@@ -347,7 +347,10 @@ impl<
         };
         let (way_back, share) = both;
         let ResultPlace { seat, place } = result;
-        let Stage::Given(operation) = mem::replace(&mut self.stage, Stage::Begun(seat)) else {
+        let OperationStage::Given(operation) = mem::replace(
+            &mut self.stage,
+            OperationStage::Begun(seat),
+        ) else {
             unreachable!()
         };
         match enter(executor, OpJob::new(rt, operation, handle, place, share)) {
@@ -358,7 +361,7 @@ impl<
                     unreachable!()
                 };
                 let Some(back) = handle else { unreachable!() };
-                self.stage = Stage::Given(operation);
+                self.stage = OperationStage::Given(operation);
                 Err(Refused { back, why })
             }
         }
@@ -367,12 +370,12 @@ impl<
     fn keep(&mut self, _item: I) {}
 
     fn poll_result(&mut self, cx: &mut Context<'_>) -> Option<Seat<OfSlot>> {
-        let Stage::Begun(seat) = &self.stage else {
+        let OperationStage::Begun(seat) = &self.stage else {
             unreachable!()
         };
         match seat.poll(cx) {
             Ok(gave) => {
-                self.stage = Stage::Gave(gave);
+                self.stage = OperationStage::Gave(gave);
                 None
             }
             Err(seat) => Some(seat),

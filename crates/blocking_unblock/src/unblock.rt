@@ -270,7 +270,7 @@ impl<T: Drop, I: Drop, J: Job, H: Runtime> Unblock<T, I, J, H> {
     ghost use Rattle.blocking_unblock.specs.Polls.{MayAsk, CanDo, Does, Brings, FitsReply, Stands, IsGoing, KeepsFirst, KeepsBrought, KeepsOpen, HasPipe, HasSession, Crosses, Crossing, Drains, Fills, Resumes, Kept, last_action};
     ghost use Rattle.blocking_core.specs.OwnerCalls.{begun_by};
 
-    // (by itself, since each turn would else clear the memory of its locals)
+    // (by itself, since each round would else clear the memory of its locals)
     #[inline(never)]
     fn begin<B: Lends<T, I, J, H>>(&mut self, brought: &mut B) -> OwnerAnswer<io::Error>
         requires at { IsAt Idle self.old.place }
@@ -370,7 +370,7 @@ impl<T: Drop, I: Drop, J: Job, H: Runtime> Unblock<T, I, J, H> {
         }
     }
 
-    // (by itself, since each turn would else clear the memory of its locals)
+    // (by itself, since each round would else clear the memory of its locals)
     #[inline(never)]
     fn poll_slot(&mut self, cx: &mut Context<'_>) -> OwnerAnswer<io::Error>
         requires { HasSession (state_of self.old.place) }
@@ -435,7 +435,7 @@ impl<T: Drop, I: Drop, J: Job, H: Runtime> Unblock<T, I, J, H> {
     }
 
     // Does what is next, and tells the machine what came of it. A note that was taken out of the job's seat is spent at once.
-    fn turn<B: Lends<T, I, J, H>>(
+    fn do_next<B: Lends<T, I, J, H>>(
         &mut self,
         poll: &mut OwnerCall<io::Error>,
         cx: &mut Context<'_>,
@@ -506,7 +506,7 @@ impl<T: Drop, I: Drop, J: Job, H: Runtime> Unblock<T, I, J, H> {
             match poll.next() {
                 OwnerAction::Reply(reply) => return Poll::Ready(reply),
                 OwnerAction::Pending => return Poll::Pending,
-                _ => self.turn(&mut poll, cx, brought, out, bytes),
+                _ => self.do_next(&mut poll, cx, brought, out, bytes),
             }
         }
         unreachable!()

@@ -5,7 +5,7 @@ ghost use Rattle.futures.specs.Task.{Covers, Keeps};
 ghost use Rattle.blocking_unblock.specs.Owners.{IsClosed, is_operating};
 ghost use Rattle.blocking_unblock.specs.Lenders.{has_begun, is_over, given_in, OperationGives};
 
-use crate::lend::{Stage, ToOperate};
+use crate::lend::{OperationStage, ToOperate};
 use crate::unblock::Unblock;
 use blocking_core::pool::{Carries, Job, Refused};
 use blocking_core::task::CallOn;
@@ -52,7 +52,7 @@ impl<
         WithMut {
             owner,
             operation: ToOperate {
-                stage: Stage::Given(operation),
+                stage: OperationStage::Given(operation),
             },
         }
     }
@@ -104,13 +104,19 @@ impl<
         match owner.poll(PollCall::Operate { has_begun }, cx, brought, &mut [], &[]) {
             Poll::Pending => Poll::Pending,
             Poll::Ready(Reply::Result) => {
-                let Stage::Gave(gave) = mem::replace(&mut brought.stage, Stage::Taken) else {
+                let OperationStage::Gave(gave) = mem::replace(
+                    &mut brought.stage,
+                    OperationStage::Taken,
+                ) else {
                     unreachable!()
                 };
                 Poll::Ready(Ok(gave))
             }
             Poll::Ready(Reply::NotBegun(why)) => {
-                let Stage::Given(back) = mem::replace(&mut brought.stage, Stage::Taken) else {
+                let OperationStage::Given(back) = mem::replace(
+                    &mut brought.stage,
+                    OperationStage::Taken,
+                ) else {
                     unreachable!()
                 };
                 Poll::Ready(Err(Refused { back, why }))

@@ -4,7 +4,7 @@ ghost use Rattle.blocking_world_state.specs.Carried.{bytes_of};
 
 use blocking_world_laws::bytes::Bytes;
 use blocking_world_laws::event::{Act, Event};
-use blocking_world_laws::step::{Answer, HandleCall};
+use blocking_world_laws::step::{HandleAnswer, HandleCall};
 
 /// The same event once more, its bytes in this room, which is empty and large enough for them. Takes no memory.
 pub(crate) fn twin_in(event: &Event, room: Vec<u8>) -> Event
@@ -35,7 +35,9 @@ fn act_in(act: &Act, room: Vec<u8>) -> Act
         ))),
         Act::Got(bytes, note) => Act::Got(bytes_in(bytes, room), *note),
         Act::Peeked(bytes) => Act::Peeked(bytes_in(bytes, room)),
-        Act::Answered(Answer::Gave(bytes)) => Act::Answered(Answer::Gave(bytes_in(bytes, room))),
+        Act::Answered(HandleAnswer::Gave(bytes)) => Act::Answered(HandleAnswer::Gave(bytes_in(
+            bytes, room,
+        ))),
         bare => bare.try_clone().unwrap(),
     }
 }

@@ -11,7 +11,8 @@ mod world;
 
 pub use blocking_world_laws::bytes::Bytes;
 pub use blocking_world_laws::{
-    Act, Answer, Event, HandleCall, HolderWaker, Moment, Party, Reply, Step, TaskCall, WaitEnd,
+    Act, Event, HandleAnswer, HandleCall, HolderWaker, Moment, Party, Reply, Step, TaskCall,
+    WaitEnd,
 };
 pub use cuts::cut;
 pub use world::{World, run};

@@ -46,9 +46,10 @@ pub use Rattle.blocking_world_laws.specs.declared.event.Party.{Party}
 pub use Rattle.blocking_world_laws.specs.declared.event.Party.TheVariants.{Owner as ByOwner, Pool}
 pub use Rattle.blocking_world_laws.specs.declared.event.Party.TheVariants.{Task as ByTask, Worker}
 pub use Rattle.blocking_world_laws.specs.declared.event.Reply.{Reply as Told}
-pub use Rattle.blocking_world_laws.specs.declared.step.Answer.{Answer}
-pub use Rattle.blocking_world_laws.specs.declared.step.Answer.TheVariants.{Failed, Fine, Gave, Item}
-pub use Rattle.blocking_world_laws.specs.declared.step.Answer.TheVariants.{NoItem, Number}
+pub use Rattle.blocking_world_laws.specs.declared.step.HandleAnswer.{HandleAnswer}
+pub use Rattle.blocking_world_laws.specs.declared.step.HandleAnswer.TheVariants.{Failed, Fine}
+pub use Rattle.blocking_world_laws.specs.declared.step.HandleAnswer.TheVariants.{Gave, Item}
+pub use Rattle.blocking_world_laws.specs.declared.step.HandleAnswer.TheVariants.{NoItem, Number}
 pub use Rattle.blocking_world_laws.specs.declared.step.HandleCall.{HandleCall}
 pub use Rattle.blocking_world_laws.specs.declared.step.HandleCall.TheVariants.{IntoInner}
 pub use Rattle.blocking_world_laws.specs.declared.step.TaskCall.{TaskCall}

@@ -8,7 +8,7 @@ use Rattle.blocking_world_laws.specs.declared.event.Act.{Act}
 use Rattle.blocking_world_laws.specs.declared.event.Act.TheVariants.{Answered, Finished}
 use Rattle.blocking_world_laws.specs.declared.event.Act.TheVariants.{HolderWoken}
 use Rattle.blocking_world_laws.specs.declared.event.HolderWaker.TheVariants.{Taken, Absent}
-use Rattle.blocking_world_laws.specs.declared.step.Answer.TheVariants.{Number}
+use Rattle.blocking_world_laws.specs.declared.step.HandleAnswer.TheVariants.{Number}
 
 -- What the job of a call does next, and what its call was answered, once it was.
 pub record Progress : Type 0 where

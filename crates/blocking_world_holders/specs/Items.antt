@@ -9,8 +9,8 @@ use Rattle.blocking_core.specs.declared.job.item.ItemAnswer.TheVariants as by
 use Rattle.blocking_world_laws.specs.JobTable.{Streaming, JobAction, AskItem, SendItem, CloseEnd}
 use Rattle.blocking_world_laws.specs.JobTable.{Finish, WakeHolder, Over, next_but_wake, fault}
 use Rattle.blocking_world_laws.specs.declared.event.Act.{Act}
-use Rattle.blocking_world_laws.specs.declared.step.Answer.{Answer}
-use Rattle.blocking_world_laws.specs.declared.step.Answer.TheVariants.{Item, NoItem}
+use Rattle.blocking_world_laws.specs.declared.step.HandleAnswer.{HandleAnswer}
+use Rattle.blocking_world_laws.specs.declared.step.HandleAnswer.TheVariants.{Item, NoItem}
 use Rattle.blocking_world_holders.specs.Reads.{has_waker}
 
 -- What the job of an iterator does next, and the item that its handle gave last, 0 before the
@@ -49,7 +49,7 @@ abbrev pub progress_after_item : Progress → ℕ → Progress
 progress_after_item job x = record job { core = item_after job.core by.Gave; item = x }
 
 -- the handle answered so
-abbrev pub progress_after_answer : Progress → Answer → Progress
+abbrev pub progress_after_answer : Progress → HandleAnswer → Progress
 progress_after_answer job (Item x) = progress_after_item job x
 progress_after_answer job NoItem = progress_with job by.Ended
 progress_after_answer job _ = job

@@ -9,8 +9,8 @@ use Rattle.blocking_core.specs.declared.job.op.OpAnswer.TheVariants as by
 use Rattle.blocking_world_laws.specs.JobTable.{Operating, JobAction, AskResult, PutResult, Finish}
 use Rattle.blocking_world_laws.specs.JobTable.{WakeHolder, Over, next_but_wake, fault, number}
 use Rattle.blocking_world_laws.specs.declared.event.Act.{Act}
-use Rattle.blocking_world_laws.specs.declared.step.Answer.{Answer}
-use Rattle.blocking_world_laws.specs.declared.step.Answer.TheVariants.{Number}
+use Rattle.blocking_world_laws.specs.declared.step.HandleAnswer.{HandleAnswer}
+use Rattle.blocking_world_laws.specs.declared.step.HandleAnswer.TheVariants.{Number}
 use Rattle.blocking_world_holders.specs.Reads.{has_waker}
 
 -- What the job of an operation does next, and the number that the operation gave, 0 before it did.
@@ -48,7 +48,7 @@ abbrev pub progress_after_number : Progress → ℕ → Progress
 progress_after_number job n = record job { core = operation_after job.core by.Returned; number = n }
 
 -- the operation answered so
-abbrev pub progress_after_answer : Progress → Answer → Progress
+abbrev pub progress_after_answer : Progress → HandleAnswer → Progress
 progress_after_answer job (Number n) = progress_after_number job n
 progress_after_answer job _ = job
 

@@ -17,7 +17,7 @@ use Rattle.blocking_world_laws.specs.declared.event.Event.{Event}
 use Rattle.blocking_world_laws.specs.declared.event.Moment.{Moment}
 use Rattle.blocking_world_laws.specs.declared.event.Party.TheVariants.{Owner as ByOwner}
 use Rattle.blocking_world_laws.specs.declared.event.Party.TheVariants.{Task as ByTask, Worker}
-use Rattle.blocking_world_laws.specs.declared.step.Answer.{Answer}
+use Rattle.blocking_world_laws.specs.declared.step.HandleAnswer.{HandleAnswer}
 use Rattle.blocking_world_laws.specs.declared.step.HandleCall.{HandleCall}
 use Rattle.blocking_world_holders.specs.Owners.{Owner, Did, Worked, capacity_asked, goods_asked}
 use Rattle.blocking_world_holders.specs.Owners.{rests, may_ask, is_gone, note_at, next_of, did}
@@ -48,7 +48,7 @@ pub data OwnerStep : Type 0 where
   -- a job of it, which is so far, takes its next action, which is its own
   Works : SessionJob → OwnerStep
   -- the handle of a job of it, which is so far, answers so
-  IsAnswered : SessionJob → Answer → OwnerStep
+  IsAnswered : SessionJob → HandleAnswer → OwnerStep
   -- its job gives up
   GivesUp : OwnerStep
   -- a job that gave up calls the waker that it took

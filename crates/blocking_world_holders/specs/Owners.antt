@@ -78,8 +78,8 @@ use Rattle.blocking_world_holders.specs.declared.session.op.Awaited.{Awaited}
 use Rattle.blocking_world_holders.specs.declared.session.op.Awaited.TheVariants as awaited
 use Rattle.blocking_world_holders.specs.declared.session.write.Entered.{Entered}
 use Rattle.blocking_world_holders.specs.declared.session.write.Entered.TheVariants as entered
-use Rattle.blocking_world_holders.specs.declared.session.read.Found.{Found}
-use Rattle.blocking_world_holders.specs.declared.session.read.Found.TheVariants as found
+use Rattle.blocking_world_holders.specs.declared.session.read.ReadFound.{ReadFound}
+use Rattle.blocking_world_holders.specs.declared.session.read.ReadFound.TheVariants as found
 use Rattle.blocking_world_holders.specs.declared.session.item.Obtained.{Obtained}
 use Rattle.blocking_world_holders.specs.declared.session.item.Obtained.TheVariants as obtained
 use Rattle.blocking_world_holders.specs.declared.session.Looked.{Looked}
@@ -275,7 +275,7 @@ pub record Did : Type 0 where
   pub owner : Owner
 
 -- what a drain finds, a receipt, a fill, a look into the slot, and one for a result
-abbrev pub found_as : Met (List ℕ × Option JobNumber) → Found
+abbrev pub found_as : Met (List ℕ × Option JobNumber) → ReadFound
 found_as (Served got) = found.Bytes got.0 got.1
 found_as Waiting = found.Nothing
 found_as Closed = found.End

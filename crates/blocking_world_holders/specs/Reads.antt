@@ -12,8 +12,8 @@ use Rattle.blocking_world_laws.specs.JobTable.{Reading, JobAction, AskBytes, Fin
 use Rattle.blocking_world_laws.specs.JobTable.{CloseEnd, Finish, WakeHolder, Over, next_but_wake}
 use Rattle.blocking_world_laws.specs.JobTable.{takes_waker, earlier, fault}
 use Rattle.blocking_world_laws.specs.declared.event.Act.{Act}
-use Rattle.blocking_world_laws.specs.declared.step.Answer.{Answer}
-use Rattle.blocking_world_laws.specs.declared.step.Answer.TheVariants.{Gave, Failed}
+use Rattle.blocking_world_laws.specs.declared.step.HandleAnswer.{HandleAnswer}
+use Rattle.blocking_world_laws.specs.declared.step.HandleAnswer.TheVariants.{Gave, Failed}
 
 -- What the job of a reader does next, what its reader gave last, and its fault, once it met one.
 pub record Progress : Type 0 where
@@ -58,7 +58,7 @@ progress_after_failure job error =
     record job { core = read_after job.core by.Failed; fault = earlier job.fault (Some (Io error)) }
 
 -- the reader answered so
-abbrev pub progress_after_answer : Progress → Answer → Progress
+abbrev pub progress_after_answer : Progress → HandleAnswer → Progress
 progress_after_answer job (Gave bytes) = progress_after_gift job bytes
 progress_after_answer job (Failed error) = progress_after_failure job error
 progress_after_answer job _ = job

@@ -12,8 +12,8 @@ use Rattle.blocking_core.specs.declared.job.seek.SeekAnswer.TheVariants as by
 use Rattle.blocking_world_laws.specs.JobTable.{Seeking, JobAction, AskSeek, Finish, WakeHolder}
 use Rattle.blocking_world_laws.specs.JobTable.{Over, next_but_wake, earlier, fault, number}
 use Rattle.blocking_world_laws.specs.declared.event.Act.{Act}
-use Rattle.blocking_world_laws.specs.declared.step.Answer.{Answer}
-use Rattle.blocking_world_laws.specs.declared.step.Answer.TheVariants.{Number, Failed}
+use Rattle.blocking_world_laws.specs.declared.step.HandleAnswer.{HandleAnswer}
+use Rattle.blocking_world_laws.specs.declared.step.HandleAnswer.TheVariants.{Number, Failed}
 use Rattle.blocking_world_holders.specs.Reads.{has_waker}
 
 -- What the job of a seek does next, where its handle is to go, where it was found to be, once it
@@ -57,7 +57,7 @@ progress_after_failure job error =
     record job { core = seek_after job.core by.Failed; fault = earlier job.fault (Some (Io error)) }
 
 -- the handle answered so
-abbrev pub progress_after_answer : Progress → Answer → Progress
+abbrev pub progress_after_answer : Progress → HandleAnswer → Progress
 progress_after_answer job (Number place) = progress_after_place job place
 progress_after_answer job (Failed error) = progress_after_failure job error
 progress_after_answer job _ = job

@@ -3,7 +3,7 @@ use Rattle.std.specs.Prelude.{List}
 use Rattle.blocking_world_laws.specs.JobTable.{Kind, Reading, Writing, Streaming, JobAction}
 use Rattle.blocking_world_laws.specs.JobTable.{Seeking, Operating}
 use Rattle.blocking_world_laws.specs.declared.event.Act.{Act}
-use Rattle.blocking_world_laws.specs.declared.step.Answer.{Answer}
+use Rattle.blocking_world_laws.specs.declared.step.HandleAnswer.{HandleAnswer}
 use Rattle.blocking_world_holders.specs.Reads as reads
 use Rattle.blocking_world_holders.specs.Reads.{ReadAs}
 use Rattle.blocking_world_holders.specs.Items as streams
@@ -43,7 +43,7 @@ action_of (Seek seek) = seeks.action_of seek
 action_of (Operate operation) = operations.action_of operation
 
 -- the job after its handle answered so
-abbrev pub job_after_answer : SessionJob → Answer → SessionJob
+abbrev pub job_after_answer : SessionJob → HandleAnswer → SessionJob
 job_after_answer (Read read) answer = Read (reads.progress_after_answer read answer)
 job_after_answer (Write write) answer = Write (writes.progress_after_answer write answer)
 job_after_answer (Items items) answer = Items (streams.progress_after_answer items answer)

@@ -14,7 +14,7 @@ use Rattle.blocking_world_laws.specs.declared.event.Event.{Event}
 use Rattle.blocking_world_laws.specs.declared.event.Moment.{Moment}
 use Rattle.blocking_world_laws.specs.declared.event.Party.TheVariants.{Owner as ByOwner}
 use Rattle.blocking_world_laws.specs.declared.event.Party.TheVariants.{Task as ByTask, Worker, Pool}
-use Rattle.blocking_world_laws.specs.declared.step.Answer.TheVariants.{Number}
+use Rattle.blocking_world_laws.specs.declared.step.HandleAnswer.TheVariants.{Number}
 use Rattle.blocking_world_laws.specs.declared.step.TaskCall.{TaskCall}
 use Rattle.blocking_world_holders.specs.Tasks.{Task, may_be, has_let_go, task_act, task_after_call}
 use Rattle.blocking_world_holders.specs.Tasks.{finish_wakes, task_after_finish, give_up_wakes}

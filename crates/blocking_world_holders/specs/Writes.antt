@@ -12,8 +12,8 @@ use Rattle.blocking_world_laws.specs.JobTable.{Writing, JobAction, Peek, OfferBy
 use Rattle.blocking_world_laws.specs.JobTable.{AskFlush, CloseEnd, Finish, WakeHolder, Over}
 use Rattle.blocking_world_laws.specs.JobTable.{next_but_wake, fault}
 use Rattle.blocking_world_laws.specs.declared.event.Act.{Act}
-use Rattle.blocking_world_laws.specs.declared.step.Answer.{Answer}
-use Rattle.blocking_world_laws.specs.declared.step.Answer.TheVariants.{Number, Fine, Failed}
+use Rattle.blocking_world_laws.specs.declared.step.HandleAnswer.{HandleAnswer}
+use Rattle.blocking_world_laws.specs.declared.step.HandleAnswer.TheVariants.{Number, Fine, Failed}
 use Rattle.blocking_world_holders.specs.Reads.{has_waker}
 
 -- What the job of a writer does next, with its fault, once it met one, and what it found last at
@@ -63,7 +63,7 @@ progress_after_piece job piece =
     record { core = write_after job.core (by.Peeked (length piece)); piece = piece }
 
 -- the writer answered so
-abbrev pub progress_after_answer : Progress → Answer → Progress
+abbrev pub progress_after_answer : Progress → HandleAnswer → Progress
 progress_after_answer job (Number taken) = progress_with job (by.Took taken)
 progress_after_answer job Fine = progress_with job by.Flushed
 progress_after_answer job (Failed error) = progress_with job (by.Failed error)

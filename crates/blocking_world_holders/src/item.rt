@@ -2,7 +2,7 @@
 ghost use Rattle.std.specs.Prelude.{◌≡◌};
 
 use blocking_core::job::{ItemAction, ItemAnswer, ItemCore};
-use blocking_world_laws::step::Answer;
+use blocking_world_laws::step::HandleAnswer;
 use std::marker::Model;
 
 /// How far the job of an iterator is: what it does next, and the item that its handle gave last, by its number.
@@ -45,27 +45,30 @@ impl ItemProgress {
     }
 
     /// Whether this is an answer to what the job asks for: an item, or that there is none left.
-    pub fn may_be_answered(&self, answer: &Answer) -> bool
+    pub fn may_be_answered(&self, answer: &HandleAnswer) -> bool
         ensures { result ≡ is_answer (action_of self.now) answer.now }
     {
         match (self.core.next(), answer) {
-            (ItemAction::Next, Answer::Item(_)) => true,
-            (ItemAction::Next, Answer::NoItem) => true,
+            (ItemAction::Next, HandleAnswer::Item(_)) => true,
+            (ItemAction::Next, HandleAnswer::NoItem) => true,
             _ => false,
         }
     }
 
     /// The handle answered so. A number, bytes, a flush and a failure are no answers of an iterator, and change nothing.
-    pub fn answer(&mut self, answer: Answer)
+    pub fn answer(&mut self, answer: HandleAnswer)
         ensures { self.new ≡ progress_after_answer self.old answer }
     {
         match answer {
-            Answer::Item(item) => {
+            HandleAnswer::Item(item) => {
                 self.core.answer(ItemAnswer::Gave);
                 self.item = item;
             }
-            Answer::NoItem => self.core.answer(ItemAnswer::Ended),
-            Answer::Number(_) | Answer::Gave(_) | Answer::Fine | Answer::Failed(_) => {}
+            HandleAnswer::NoItem => self.core.answer(ItemAnswer::Ended),
+            HandleAnswer::Number(_)
+            | HandleAnswer::Gave(_)
+            | HandleAnswer::Fine
+            | HandleAnswer::Failed(_) => {}
         }
     }
 

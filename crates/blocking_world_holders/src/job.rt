@@ -7,7 +7,7 @@ use crate::read::ReadProgress;
 use crate::seek::SeekProgress;
 use crate::write::WriteProgress;
 use blocking_core::job::{ItemAction, OpAction, ReadAction, SeekAction, WriteAction};
-use blocking_world_laws::step::Answer;
+use blocking_world_laws::step::HandleAnswer;
 
 /// The job of a session, and how far it is.
 #[derive(Drop)]
@@ -58,7 +58,7 @@ impl SessionJob {
     }
 
     /// Whether this is an answer to what it asks for.
-    pub fn may_be_answered(&self, answer: &Answer) -> bool
+    pub fn may_be_answered(&self, answer: &HandleAnswer) -> bool
         ensures { result ≡ is_answer (action_of self.now) answer.now }
     {
         match self {
@@ -71,7 +71,7 @@ impl SessionJob {
     }
 
     /// The handle answered so.
-    pub fn answer(&mut self, answer: Answer)
+    pub fn answer(&mut self, answer: HandleAnswer)
         ensures { self.new ≡ job_after_answer self.old answer }
     {
         match self {

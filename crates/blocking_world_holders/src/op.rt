@@ -2,7 +2,7 @@
 ghost use Rattle.std.specs.Prelude.{◌≡◌};
 
 use blocking_core::job::{OpAction, OpAnswer, OpCore};
-use blocking_world_laws::step::Answer;
+use blocking_world_laws::step::HandleAnswer;
 use std::marker::Model;
 
 /// How far the job of an operation is: what it does next, and the number that the operation gave, once it did.
@@ -45,23 +45,26 @@ impl OpProgress {
     }
 
     /// Whether this is an answer to what the job asks for: the number that the operation gave.
-    pub fn may_be_answered(&self, answer: &Answer) -> bool
+    pub fn may_be_answered(&self, answer: &HandleAnswer) -> bool
         ensures { result ≡ is_answer (action_of self.now) answer.now }
     {
         matches!(
             (self.core.next(), answer),
-            (OpAction::Call, Answer::Number(_))
+            (OpAction::Call, HandleAnswer::Number(_))
         )
     }
 
     /// The operation answered so. Bytes, a flush, an item and a failure are no answers of an operation, and change nothing.
-    pub fn answer(&mut self, answer: Answer)
+    pub fn answer(&mut self, answer: HandleAnswer)
         ensures { self.new ≡ progress_after_answer self.old answer }
     {
         match answer {
-            Answer::Number(number) => self.keep(number),
-            Answer::Gave(_) | Answer::Fine | Answer::Item(_) | Answer::NoItem | Answer::Failed(_) =>
-                {}
+            HandleAnswer::Number(number) => self.keep(number),
+            HandleAnswer::Gave(_)
+            | HandleAnswer::Fine
+            | HandleAnswer::Item(_)
+            | HandleAnswer::NoItem
+            | HandleAnswer::Failed(_) => {}
         }
     }
 

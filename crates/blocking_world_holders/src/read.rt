@@ -4,7 +4,7 @@ ghost use Rattle.std.specs.Prelude.{◌≡◌};
 use blocking_core::io::Fault;
 use blocking_core::job::{ReadAction, ReadAnswer, ReadCore};
 use blocking_world_laws::bytes::Bytes;
-use blocking_world_laws::step::Answer;
+use blocking_world_laws::step::HandleAnswer;
 use std::alloc::Global;
 use std::marker::Model;
 
@@ -49,24 +49,27 @@ impl ReadProgress {
     }
 
     /// Whether this is an answer to what the job asks for: bytes, no more than it asked for, or a failure of its reader.
-    pub fn may_be_answered(&self, answer: &Answer) -> bool
+    pub fn may_be_answered(&self, answer: &HandleAnswer) -> bool
         ensures { result ≡ is_answer (action_of self.now) answer.now }
     {
         match (self.core.next(), answer) {
-            (ReadAction::Read(most), Answer::Gave(bytes)) => bytes.as_slice().len() <= most,
-            (ReadAction::Read(_), Answer::Failed(_)) => true,
+            (ReadAction::Read(most), HandleAnswer::Gave(bytes)) => bytes.as_slice().len() <= most,
+            (ReadAction::Read(_), HandleAnswer::Failed(_)) => true,
             _ => false,
         }
     }
 
     /// The reader answered so. A number, a flush and an item are no answers of a reader, and change nothing.
-    pub fn answer(&mut self, answer: Answer)
+    pub fn answer(&mut self, answer: HandleAnswer)
         ensures { self.new ≡ progress_after_answer self.old answer }
     {
         match answer {
-            Answer::Gave(bytes) => self.keep(bytes),
-            Answer::Failed(error) => self.fail(error),
-            Answer::Number(_) | Answer::Fine | Answer::Item(_) | Answer::NoItem => {}
+            HandleAnswer::Gave(bytes) => self.keep(bytes),
+            HandleAnswer::Failed(error) => self.fail(error),
+            HandleAnswer::Number(_)
+            | HandleAnswer::Fine
+            | HandleAnswer::Item(_)
+            | HandleAnswer::NoItem => {}
         }
     }
 

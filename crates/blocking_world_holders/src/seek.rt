@@ -3,7 +3,7 @@ ghost use Rattle.std.specs.Prelude.{◌≡◌};
 
 use blocking_core::io::{Fault, Position};
 use blocking_core::job::{SeekAction, SeekAnswer, SeekCore};
-use blocking_world_laws::step::Answer;
+use blocking_world_laws::step::HandleAnswer;
 use std::marker::Model;
 
 /// How far the job of a seek is: what it does next, and where its handle is to go. Also where it was found to be, once it was, and the
@@ -50,23 +50,29 @@ impl SeekProgress {
     }
 
     /// Whether this is an answer to what the job asks for: where the handle is now, or a failure of it.
-    pub fn may_be_answered(&self, answer: &Answer) -> bool
+    pub fn may_be_answered(&self, answer: &HandleAnswer) -> bool
         ensures { result ≡ is_answer (action_of self.now) answer.now }
     {
         matches!(
             (self.core.next(), answer),
-            (SeekAction::Seek, Answer::Number(_) | Answer::Failed(_))
+            (
+                SeekAction::Seek,
+                HandleAnswer::Number(_) | HandleAnswer::Failed(_)
+            )
         )
     }
 
     /// The handle answered so. Bytes, a flush and an item are no answers to a seek, and change nothing.
-    pub fn answer(&mut self, answer: Answer)
+    pub fn answer(&mut self, answer: HandleAnswer)
         ensures { self.new ≡ progress_after_answer self.old answer }
     {
         match answer {
-            Answer::Number(place) => self.arrive(place),
-            Answer::Failed(error) => self.fail(error),
-            Answer::Gave(_) | Answer::Fine | Answer::Item(_) | Answer::NoItem => {}
+            HandleAnswer::Number(place) => self.arrive(place),
+            HandleAnswer::Failed(error) => self.fail(error),
+            HandleAnswer::Gave(_)
+            | HandleAnswer::Fine
+            | HandleAnswer::Item(_)
+            | HandleAnswer::NoItem => {}
         }
     }
 

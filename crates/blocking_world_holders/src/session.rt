@@ -13,7 +13,7 @@ use blocking_core::pool::{JobNo, WakeNote};
 use blocking_core::task::{Slot, Slotted};
 pub(crate) use item::Obtained;
 pub(crate) use op::Awaited;
-pub(crate) use read::Found;
+pub(crate) use read::ReadFound;
 use std::marker::Model;
 pub(crate) use write::Entered;
 

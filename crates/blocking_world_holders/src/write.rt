@@ -4,7 +4,7 @@ ghost use Rattle.std.specs.Prelude.{◌≡◌};
 use blocking_core::io::Fault;
 use blocking_core::job::{WriteAction, WriteAnswer, WriteCore};
 use blocking_world_laws::bytes::Bytes;
-use blocking_world_laws::step::Answer;
+use blocking_world_laws::step::HandleAnswer;
 use std::alloc::Global;
 use std::marker::Model;
 
@@ -49,28 +49,28 @@ impl WriteProgress {
 
     /// Whether this is an answer to what the job asks for. It says how much of a piece its writer took, no more than it was offered, or
     /// that it was flushed, or a failure of either.
-    pub fn may_be_answered(&self, answer: &Answer) -> bool
+    pub fn may_be_answered(&self, answer: &HandleAnswer) -> bool
         ensures { result ≡ is_answer (action_of self.now) answer.now }
     {
         match (self.core.next(), answer) {
-            (WriteAction::Write(_), Answer::Number(taken)) => {
+            (WriteAction::Write(_), HandleAnswer::Number(taken)) => {
                 *taken as usize <= self.piece.as_slice().len()
             }
-            (WriteAction::Write(_) | WriteAction::Flush, Answer::Failed(_)) => true,
-            (WriteAction::Flush, Answer::Fine) => true,
+            (WriteAction::Write(_) | WriteAction::Flush, HandleAnswer::Failed(_)) => true,
+            (WriteAction::Flush, HandleAnswer::Fine) => true,
             _ => false,
         }
     }
 
     /// The writer answered so. Bytes and items are no answers of a writer, and change nothing.
-    pub fn answer(&mut self, answer: Answer)
+    pub fn answer(&mut self, answer: HandleAnswer)
         ensures { self.new ≡ progress_after_answer self.old answer }
     {
         match answer {
-            Answer::Number(taken) => self.core.answer(WriteAnswer::Took(taken as usize)),
-            Answer::Fine => self.core.answer(WriteAnswer::Flushed),
-            Answer::Failed(error) => self.core.answer(WriteAnswer::Failed(error)),
-            Answer::Gave(_) | Answer::Item(_) | Answer::NoItem => {}
+            HandleAnswer::Number(taken) => self.core.answer(WriteAnswer::Took(taken as usize)),
+            HandleAnswer::Fine => self.core.answer(WriteAnswer::Flushed),
+            HandleAnswer::Failed(error) => self.core.answer(WriteAnswer::Failed(error)),
+            HandleAnswer::Gave(_) | HandleAnswer::Item(_) | HandleAnswer::NoItem => {}
         }
     }
 

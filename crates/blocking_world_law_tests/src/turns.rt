@@ -12,7 +12,7 @@ ghost use Rattle.blocking_world_laws.specs.declared.event.Act.TheVariants.{Accep
 ghost use Rattle.blocking_world_laws.specs.declared.event.Party.TheVariants.{Worker, Pool};
 ghost use Rattle.blocking_world_laws.specs.declared.event.HolderWaker.TheVariants.{Absent};
 ghost use Rattle.blocking_world_laws.specs.declared.event.WaitEnd.TheVariants.{TimedOut};
-ghost use Rattle.blocking_world_laws.specs.declared.step.Answer.TheVariants.{Number};
+ghost use Rattle.blocking_world_laws.specs.declared.step.HandleAnswer.TheVariants.{Number};
 ghost use Rattle.blocking_world_laws.specs.declared.step.Step.TheVariants.{Spawn, Arrive, Take, Job, Io, End, Late, Stray};
 
 /// One worker at a time runs a job, and a worker one job.

@@ -19,7 +19,7 @@ ghost use Rattle.blocking_world_laws.specs.declared.event.Act.TheVariants.{Accep
 ghost use Rattle.blocking_world_laws.specs.declared.event.Party.TheVariants.{Task, Worker, Pool};
 ghost use Rattle.blocking_world_laws.specs.declared.event.HolderWaker.TheVariants.{Absent};
 ghost use Rattle.blocking_world_laws.specs.declared.event.WaitEnd.TheVariants.{TimedOut};
-ghost use Rattle.blocking_world_laws.specs.declared.step.Answer.TheVariants.{Number};
+ghost use Rattle.blocking_world_laws.specs.declared.step.HandleAnswer.TheVariants.{Number};
 ghost use Rattle.blocking_world_laws.specs.declared.step.Step.TheVariants.{Spawn, OfTask, Arrive, Take, Job, Io, End, Late};
 ghost use Rattle.blocking_world_laws.specs.declared.step.TaskCall.TheVariants.{Poll};
 ghost use Rattle.blocking_pool.specs.declared.pool.standing.Standing.TheVariants.{Done};

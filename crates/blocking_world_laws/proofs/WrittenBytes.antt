@@ -43,8 +43,8 @@ use Rattle.blocking_world_laws.specs.declared.event.Act.TheVariants.{GaveUp}
 use Rattle.blocking_world_laws.specs.declared.event.Event.{Event}
 use Rattle.blocking_world_laws.specs.declared.event.HolderWaker.{HolderWaker}
 use Rattle.blocking_world_laws.specs.declared.event.Moment.{Moment}
-use Rattle.blocking_world_laws.specs.declared.step.Answer.{Answer}
-use Rattle.blocking_world_laws.specs.declared.step.Answer.TheVariants.{Number, Gave, Item}
+use Rattle.blocking_world_laws.specs.declared.step.HandleAnswer.{HandleAnswer}
+use Rattle.blocking_world_laws.specs.declared.step.HandleAnswer.TheVariants.{Number, Gave, Item}
 
 -- ---- what is seen at a place
 
@@ -202,7 +202,7 @@ put_is Streaming = refl
 put_is _ = refl
 
 -- an answer to an offer leaves bytes to be taken out, as many as were taken; no other leaves any
-taken_is_due : (action : JobAction) (answer : Answer) (n : ℕ) (found : List ℕ)
+taken_is_due : (action : JobAction) (answer : HandleAnswer) (n : ℕ) (found : List ℕ)
     → is_answer action answer ≡ true → next_after_answer action answer ≡ Consume n
     → ((bytes : List ℕ) → action ≡ OfferBytes bytes → found ≡ bytes)
     → length (counted answer found) ≡ n
@@ -222,7 +222,7 @@ taken_is_due AskItem _ n found fits next offered = absurd cc
 taken_is_due _ answer n found fits next offered = absurd cc
 
 -- and none leaves an offer
-no_offer : (action : JobAction) (answer : Answer) (bytes : List ℕ)
+no_offer : (action : JobAction) (answer : HandleAnswer) (bytes : List ℕ)
     → next_after_answer action answer ≡ OfferBytes bytes → ⊥
 no_offer (OfferBytes more) (Number zero) bytes next = cc
 no_offer (OfferBytes more) (Number (suc k)) bytes next = cc
@@ -234,7 +234,7 @@ no_offer AskItem (Item x) bytes next = cc
 no_offer AskItem _ bytes next = cc
 no_offer _ answer bytes next = cc
 
-more_taken : (acts : List Act) (answer : Answer) → length (taken (Answered answer ∷ acts))
+more_taken : (acts : List Act) (answer : HandleAnswer) → length (taken (Answered answer ∷ acts))
     ≡ length (taken acts) + length (counted answer (peeked acts))
 more_taken acts answer = length-append (taken acts) (counted answer (peeked acts))
 

@@ -2,13 +2,13 @@
 use Rattle.std.specs.Prelude.{Bool, true, false}
 use Rattle.blocking_world_laws.specs.declared.event.Act.{Act}
 use Rattle.blocking_world_laws.specs.declared.event.Act.TheVariants.{Asked, Got, Peeked, Answered}
-use Rattle.blocking_world_laws.specs.declared.step.Answer.{Answer}
-use Rattle.blocking_world_laws.specs.declared.step.Answer.TheVariants.{Gave}
+use Rattle.blocking_world_laws.specs.declared.step.HandleAnswer.{HandleAnswer}
+use Rattle.blocking_world_laws.specs.declared.step.HandleAnswer.TheVariants.{Gave}
 use Rattle.blocking_world_laws.specs.declared.step.HandleCall.{HandleCall}
 use Rattle.blocking_world_laws.specs.declared.step.HandleCall.TheVariants.{Write}
 
 -- whether an answer carries no bytes
-abbrev pub is_bare_answer : Answer → Bool
+abbrev pub is_bare_answer : HandleAnswer → Bool
 is_bare_answer (Gave bytes) = false
 is_bare_answer _ = true
 

@@ -9,7 +9,7 @@ use Rattle.blocking_world_laws.specs.declared.event.Act.TheVariants.{Copied}
 use Rattle.blocking_world_laws.specs.declared.event.Moment.{Moment}
 use Rattle.blocking_world_laws.specs.declared.event.Party.TheVariants.{Owner, Pool}
 use Rattle.blocking_world_laws.specs.declared.event.Reply.TheVariants.{Okay, Count}
-use Rattle.blocking_world_laws.specs.declared.step.Answer.TheVariants.{Number}
+use Rattle.blocking_world_laws.specs.declared.step.HandleAnswer.TheVariants.{Number}
 use Rattle.blocking_world_laws.specs.declared.step.HandleCall.TheVariants.{Read, Write, Flush}
 use Rattle.blocking_world_laws.specs.declared.step.Step.TheVariants.{Own, Link, Copy}
 

@@ -10,53 +10,54 @@ use Rattle.blocking_world_laws.specs.declared.event.Act.TheVariants.{Asked, Back
 use Rattle.blocking_world_laws.specs.declared.event.Event.{Event}
 use Rattle.blocking_world_laws.specs.declared.event.Reply.{Reply}
 use Rattle.blocking_world_laws.specs.declared.event.Reply.TheVariants.{Okay, Count, NoMore}
-use Rattle.blocking_world_laws.specs.declared.step.Answer.{Answer}
-use Rattle.blocking_world_laws.specs.declared.step.Answer.TheVariants.{Number, Gave, Fine, NoItem}
-use Rattle.blocking_world_laws.specs.declared.step.Answer.TheVariants.{Failed}
+use Rattle.blocking_world_laws.specs.declared.step.HandleAnswer.{HandleAnswer}
+use Rattle.blocking_world_laws.specs.declared.step.HandleAnswer.TheVariants.{Number, Gave}
+use Rattle.blocking_world_laws.specs.declared.step.HandleAnswer.TheVariants.{Fine, NoItem}
+use Rattle.blocking_world_laws.specs.declared.step.HandleAnswer.TheVariants.{Failed}
 use Rattle.blocking_world_laws.specs.declared.step.HandleCall.{HandleCall}
 use Rattle.blocking_world_laws.specs.declared.step.HandleCall.TheVariants.{Read, Flush, Close, Next}
 
 -- the answers of a job's handle, the newest first
-abbrev pub handle_answers : List Act → List Answer
+abbrev pub handle_answers : List Act → List HandleAnswer
 handle_answers [] = []
 handle_answers (Answered answer ∷ past) = answer ∷ handle_answers past
 handle_answers (_ ∷ past) = handle_answers past
 
 -- whether an answer is the end of a handle: no bytes, or no item
-abbrev pub is_end : Answer → Bool
+abbrev pub is_end : HandleAnswer → Bool
 is_end (Gave []) = true
 is_end NoItem = true
 is_end _ = false
 
 -- whether an answer is a failure
-abbrev pub is_failure : Answer → Bool
+abbrev pub is_failure : HandleAnswer → Bool
 is_failure (Failed e) = true
 is_failure _ = false
 
 -- whether one of the answers is a failure
-abbrev pub has_failure : List Answer → Bool
+abbrev pub has_failure : List HandleAnswer → Bool
 has_failure [] = false
 has_failure (answer ∷ more) = is_failure answer || has_failure more
 
 -- whether an answer is that of a write that failed: a failure, or nothing was taken
-abbrev pub is_failed_write : Answer → Bool
+abbrev pub is_failed_write : HandleAnswer → Bool
 is_failed_write (Number zero) = true
 is_failed_write (Failed e) = true
 is_failed_write _ = false
 
 -- whether one of the answers is that of a write that failed
-abbrev pub has_failed_write : List Answer → Bool
+abbrev pub has_failed_write : List HandleAnswer → Bool
 has_failed_write [] = false
 has_failed_write (answer ∷ more) = is_failed_write answer || has_failed_write more
 
 -- whether one of the answers is that of a flush that went well
-abbrev pub has_flush : List Answer → Bool
+abbrev pub has_flush : List HandleAnswer → Bool
 has_flush [] = false
 has_flush (Fine ∷ more) = true
 has_flush (_ ∷ more) = has_flush more
 
 -- whether the last answer was the end of the handle
-abbrev pub last_is_end : List Answer → Bool
+abbrev pub last_is_end : List HandleAnswer → Bool
 last_is_end [] = false
 last_is_end (answer ∷ more) = is_end answer
 

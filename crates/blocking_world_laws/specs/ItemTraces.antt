@@ -15,7 +15,7 @@ use Rattle.blocking_world_laws.specs.declared.event.HolderWaker.TheVariants.{Tak
 use Rattle.blocking_world_laws.specs.declared.event.Moment.{Moment}
 use Rattle.blocking_world_laws.specs.declared.event.Party.TheVariants.{Owner, Worker}
 use Rattle.blocking_world_laws.specs.declared.event.Reply.TheVariants.{OneItem, NoMore}
-use Rattle.blocking_world_laws.specs.declared.step.Answer.TheVariants.{Item, NoItem}
+use Rattle.blocking_world_laws.specs.declared.step.HandleAnswer.TheVariants.{Item, NoItem}
 use Rattle.blocking_world_laws.specs.declared.step.HandleCall.TheVariants.{Next, GetMut}
 use Rattle.blocking_world_laws.specs.declared.step.Step.TheVariants.{New, Arrive}
 

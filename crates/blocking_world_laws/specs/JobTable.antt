@@ -10,10 +10,11 @@ use Rattle.blocking_world_laws.specs.declared.event.Act.TheVariants.{Taken as Ta
 use Rattle.blocking_world_laws.specs.declared.event.Act.TheVariants.{ResultPut, Finished, GaveUp}
 use Rattle.blocking_world_laws.specs.declared.event.HolderWaker.{HolderWaker}
 use Rattle.blocking_world_laws.specs.declared.event.HolderWaker.TheVariants.{Taken, Absent}
-use Rattle.blocking_world_laws.specs.declared.step.Answer.{Answer}
-use Rattle.blocking_world_laws.specs.declared.step.Answer.TheVariants.{Number, Gave, Fine, Item}
-use Rattle.blocking_world_laws.specs.declared.step.Answer.TheVariants.{NoItem}
-use Rattle.blocking_world_laws.specs.declared.step.Answer.TheVariants as answer
+use Rattle.blocking_world_laws.specs.declared.step.HandleAnswer.{HandleAnswer}
+use Rattle.blocking_world_laws.specs.declared.step.HandleAnswer.TheVariants.{Number, Gave}
+use Rattle.blocking_world_laws.specs.declared.step.HandleAnswer.TheVariants.{Fine, Item}
+use Rattle.blocking_world_laws.specs.declared.step.HandleAnswer.TheVariants.{NoItem}
+use Rattle.blocking_world_laws.specs.declared.step.HandleAnswer.TheVariants as answer
 
 -- what a job is for: to make a call, to read ahead for an owner, to write behind it, to fetch items
 -- ahead for it, to move its handle to a position, or to run its operation on the handle
@@ -68,7 +69,7 @@ first_action Operating = AskResult
 -- failure, it is flushed, and after the flush the job closes its end; an item is sent, and after
 -- the last the job closes its end; an operation's result is put; after a seek, and after a call,
 -- the job finishes
-abbrev pub next_after_answer : JobAction → Answer → JobAction
+abbrev pub next_after_answer : JobAction → HandleAnswer → JobAction
 next_after_answer (AskBytes n) (Gave (b ∷ bs)) = PutPiece (b ∷ bs)
 next_after_answer (AskBytes n) answer = CloseEnd
 next_after_answer (OfferBytes bytes) (Number (suc k)) = Consume (suc k)
@@ -131,7 +132,7 @@ next_of_job kind (act ∷ past) = wake_first (takes_waker act) (next_but_wake ki
 -- asked for, a writer takes no more than it was offered, or is flushed, a handle is moved, or one
 -- of these fails; a handle that is iterated gives an item or has none left, and an operation gives
 -- a number, as a call does
-abbrev pub is_answer : JobAction → Answer → Bool
+abbrev pub is_answer : JobAction → HandleAnswer → Bool
 is_answer AskCall (Number n) = true
 is_answer (AskBytes n) (Gave bytes) = nat_le (length bytes) n
 is_answer (AskBytes n) (answer.Failed e) = true
@@ -168,7 +169,7 @@ IsAnswerTo action (Answered answer) = is_answer action answer ≡ true
 IsAnswerTo action _ = ⊥
 
 -- the number in an answer, or the one before it
-abbrev pub number_in : Answer → ℕ → ℕ
+abbrev pub number_in : HandleAnswer → ℕ → ℕ
 number_in (Number n) before = n
 number_in _ before = before
 
@@ -179,7 +180,7 @@ number (Answered answer ∷ past) = number_in answer (number past)
 number (_ ∷ past) = number past
 
 -- the fault in an answer to this action: a failure, or a write of which nothing was taken
-abbrev pub fault_in : JobAction → Answer → Option (Fault ℕ)
+abbrev pub fault_in : JobAction → HandleAnswer → Option (Fault ℕ)
 fault_in action (answer.Failed e) = Some (Io e)
 fault_in (OfferBytes bytes) (Number zero) = Some WriteZero
 fault_in action _ = None

@@ -22,8 +22,8 @@ use Rattle.blocking_world_laws.specs.declared.event.HolderWaker.TheVariants.{Tak
 use Rattle.blocking_world_laws.specs.declared.event.Moment.{Moment}
 use Rattle.blocking_world_laws.specs.declared.event.Party.TheVariants.{Owner, Worker}
 use Rattle.blocking_world_laws.specs.declared.event.Reply.TheVariants.{Count}
-use Rattle.blocking_world_laws.specs.declared.step.Answer.{Answer}
-use Rattle.blocking_world_laws.specs.declared.step.Answer.TheVariants.{Gave, Failed}
+use Rattle.blocking_world_laws.specs.declared.step.HandleAnswer.{HandleAnswer}
+use Rattle.blocking_world_laws.specs.declared.step.HandleAnswer.TheVariants.{Gave, Failed}
 use Rattle.blocking_world_laws.specs.declared.step.HandleCall.{HandleCall}
 use Rattle.blocking_world_laws.specs.declared.step.HandleCall.TheVariants.{Read, GetMut}
 use Rattle.blocking_world_laws.specs.declared.step.Step.TheVariants.{New, Ask, Own, DropOwner}
@@ -52,7 +52,7 @@ abbrev pub works : ℕ → Act → Moment
 works s act = of_owner 0 (moment (Job 1) (Worker 1) (Some s) act 2)
 
 -- that job's reader answers
-abbrev pub given : ℕ → Answer → Moment
+abbrev pub given : ℕ → HandleAnswer → Moment
 given s answer = of_owner 0 (moment (Io 1 answer) (Worker 1) (Some s) (Answered answer) 2)
 
 -- the turn of that job ends

@@ -10,15 +10,15 @@ use Rattle.blocking_world_laws.specs.declared.event.Act.{Act}
 use Rattle.blocking_world_laws.specs.declared.event.Act.TheVariants.{Accepted, Got, GotItem, Filled}
 use Rattle.blocking_world_laws.specs.declared.event.Act.TheVariants.{Answered, Put, Peeked, Taken}
 use Rattle.blocking_world_laws.specs.declared.event.Event.{Event}
-use Rattle.blocking_world_laws.specs.declared.step.Answer.{Answer}
-use Rattle.blocking_world_laws.specs.declared.step.Answer.TheVariants.{Number, Gave, Item}
+use Rattle.blocking_world_laws.specs.declared.step.HandleAnswer.{HandleAnswer}
+use Rattle.blocking_world_laws.specs.declared.step.HandleAnswer.TheVariants.{Number, Gave, Item}
 use Rattle.blocking_world_laws.specs.declared.step.HandleCall.{HandleCall}
 use Rattle.blocking_world_laws.specs.declared.step.HandleCall.TheVariants.{Write}
 
 -- ---- what was given and got
 
 -- the bytes in an answer, or the item
-abbrev pub carried : Answer → List ℕ
+abbrev pub carried : HandleAnswer → List ℕ
 carried (Gave bytes) = bytes
 carried (Item x) = x ∷ []
 carried _ = []
@@ -59,7 +59,7 @@ peeked (Peeked bytes ∷ past) = bytes
 peeked (_ ∷ past) = peeked past
 
 -- what an answer says was taken of the piece that was offered: so many of its first bytes
-abbrev pub counted : Answer → List ℕ → List ℕ
+abbrev pub counted : HandleAnswer → List ℕ → List ℕ
 counted (Number k) piece = take k piece
 counted _ piece = []
 

@@ -14,7 +14,7 @@ use Rattle.blocking_world_laws.specs.declared.event.HolderWaker.TheVariants.{Tak
 use Rattle.blocking_world_laws.specs.declared.event.Moment.{Moment}
 use Rattle.blocking_world_laws.specs.declared.event.Party.TheVariants.{Worker}
 use Rattle.blocking_world_laws.specs.declared.event.Reply.TheVariants.{Count}
-use Rattle.blocking_world_laws.specs.declared.step.Answer.TheVariants.{Number, Failed}
+use Rattle.blocking_world_laws.specs.declared.step.HandleAnswer.TheVariants.{Number, Failed}
 use Rattle.blocking_world_laws.specs.declared.step.HandleCall.TheVariants.{Seek}
 use Rattle.blocking_world_laws.specs.declared.step.Step.TheVariants.{Arrive}
 

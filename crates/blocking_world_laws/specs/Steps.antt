@@ -33,7 +33,7 @@ use Rattle.blocking_world_laws.specs.declared.event.Party.{Party}
 use Rattle.blocking_world_laws.specs.declared.event.Party.TheVariants.{Owner, Task, Worker, Pool}
 use Rattle.blocking_world_laws.specs.declared.event.WaitEnd.{WaitEnd}
 use Rattle.blocking_world_laws.specs.declared.event.WaitEnd.TheVariants.{Woken, TimedOut}
-use Rattle.blocking_world_laws.specs.declared.step.Answer.{Answer}
+use Rattle.blocking_world_laws.specs.declared.step.HandleAnswer.{HandleAnswer}
 use Rattle.blocking_world_laws.specs.declared.step.Step.{Step}
 use Rattle.blocking_world_laws.specs.declared.step.Step.TheVariants.{New, Ask, Own, DropOwner}
 use Rattle.blocking_world_laws.specs.declared.step.Step.TheVariants.{Spawn, OfTask, Arrive, Take}
@@ -96,7 +96,7 @@ is_job_action GivesUp = true
 is_job_action _ = false
 
 -- whether it is the job's question, and this an answer to it
-abbrev pub is_answered_action : WorkerAction → Answer → Bool
+abbrev pub is_answered_action : WorkerAction → HandleAnswer → Bool
 is_answered_action (Does action) answer = is_asking action && is_answer action answer
 is_answered_action _ answer = false
 

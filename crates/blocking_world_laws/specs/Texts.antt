@@ -10,8 +10,8 @@ use Rattle.blocking_pool.specs.declared.pool.standing.Standing.{Standing}
 use Rattle.blocking_pool.specs.declared.pool.standing.Standing.TheVariants.{Queued, Running, Parked}
 use Rattle.blocking_pool.specs.declared.pool.standing.Standing.TheVariants.{Done, Dropped}
 use Rattle.blocking_world_laws.specs.Hex.{hex_text}
-use Rattle.blocking_world_laws.specs.declared.step.Answer.{Answer}
-use Rattle.blocking_world_laws.specs.declared.step.Answer.TheVariants as answer
+use Rattle.blocking_world_laws.specs.declared.step.HandleAnswer.{HandleAnswer}
+use Rattle.blocking_world_laws.specs.declared.step.HandleAnswer.TheVariants as answer
 use Rattle.blocking_world_laws.specs.declared.event.Act.{Act}
 use Rattle.blocking_world_laws.specs.declared.event.Act.TheVariants.{Made, Asked, OwnerClosed, Got}
 use Rattle.blocking_world_laws.specs.declared.event.Act.TheVariants.{GotItem, GotEnd, Filled}
@@ -76,7 +76,7 @@ note_text (Some s) = codes " wake " ++ decimal s
 note_text None = []
 
 -- what a job is answered
-abbrev pub answer_text : Answer → List ℕ
+abbrev pub answer_text : HandleAnswer → List ℕ
 answer_text (answer.Number n) = decimal n
 answer_text (answer.Gave bytes) = hex_text bytes
 answer_text answer.Fine = codes "ok"

@@ -22,7 +22,7 @@ use Rattle.blocking_world_laws.specs.declared.event.Party.{Party}
 use Rattle.blocking_world_laws.specs.declared.event.Party.TheVariants.{Task, Worker, Pool}
 use Rattle.blocking_world_laws.specs.declared.event.HolderWaker.TheVariants.{Taken, Absent}
 use Rattle.blocking_world_laws.specs.declared.event.WaitEnd.TheVariants.{TimedOut}
-use Rattle.blocking_world_laws.specs.declared.step.Answer.TheVariants.{Number}
+use Rattle.blocking_world_laws.specs.declared.step.HandleAnswer.TheVariants.{Number}
 use Rattle.blocking_world_laws.specs.declared.step.Step.{Step}
 use Rattle.blocking_world_laws.specs.declared.step.Step.TheVariants.{Spawn, OfTask, Arrive, Take}
 use Rattle.blocking_world_laws.specs.declared.step.Step.TheVariants.{Job, Io, End, Late, SetLimit}

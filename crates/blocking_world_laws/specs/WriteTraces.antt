@@ -16,7 +16,7 @@ use Rattle.blocking_world_laws.specs.declared.event.HolderWaker.TheVariants.{Tak
 use Rattle.blocking_world_laws.specs.declared.event.Moment.{Moment}
 use Rattle.blocking_world_laws.specs.declared.event.Party.TheVariants.{Owner, Worker}
 use Rattle.blocking_world_laws.specs.declared.event.Reply.TheVariants.{Okay, Count}
-use Rattle.blocking_world_laws.specs.declared.step.Answer.TheVariants.{Number, Fine, Failed}
+use Rattle.blocking_world_laws.specs.declared.step.HandleAnswer.TheVariants.{Number, Fine, Failed}
 use Rattle.blocking_world_laws.specs.declared.step.HandleCall.TheVariants.{Write, Flush, Close}
 use Rattle.blocking_world_laws.specs.declared.step.Step.TheVariants.{New, Arrive}
 

@@ -2,7 +2,7 @@
 ghost use Rattle.std.specs.Prelude.{◌≡◌};
 
 use crate::bytes::Bytes;
-use crate::step::{Answer, HandleCall, Step};
+use crate::step::{HandleAnswer, HandleCall, Step};
 use blocking_core::io::Fault;
 use blocking_core::pool::{Refusal, Standing, Woke};
 use std::alloc::AllocError;
@@ -168,7 +168,7 @@ pub enum Act {
     HandedOut(u64),
     // of a job, by its worker
     /// What the job asked for was answered so.
-    Answered(Answer),
+    Answered(HandleAnswer),
     /// The job found room for so many bytes in the pipe, one at least.
     RoomFree(usize),
     /// The job found the owner's end of the pipe closed.

@@ -12,4 +12,4 @@ pub mod step;
 mod text;
 
 pub use event::{Act, CopySide, Event, HolderWaker, Moment, Party, Reply, WaitEnd};
-pub use step::{Answer, HandleCall, Step, TaskCall};
+pub use step::{HandleAnswer, HandleCall, Step, TaskCall};

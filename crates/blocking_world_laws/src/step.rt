@@ -32,7 +32,7 @@ pub enum Step {
     /// The job of the worker of this number, from 1, takes its next action, which is its own to take.
     Job(usize),
     /// What the job of the worker of this number, from 1, has asked for is answered.
-    Io(usize, Answer),
+    Io(usize, HandleAnswer),
     /// The job of the worker of this number, from 1, has nothing left to do, and its turn ends.
     End(usize),
     /// The idle worker of this number, from 1, has waited and was woken.
@@ -150,7 +150,7 @@ pub enum TaskCall {
 
 /// What a job is answered from outside: by its call or operation, or by the handle that was lent to it.
 #[derive(Debug, Drop)]
-pub enum Answer {
+pub enum HandleAnswer {
     /// This number, which a call or an operation gave; so many bytes, which a writer took; or this position, to which a handle moved.
     Number(u64),
     /// These bytes, which a reader gave; none at its end.
@@ -165,22 +165,22 @@ pub enum Answer {
     Failed(u64),
 }
 
-impl Answer {
+impl HandleAnswer {
     ghost use Rattle.std.specs.Prelude.{IsOk, true};
     ghost use Rattle.blocking_world_laws.specs.Bare.{is_bare_answer};
 
     /// The same answer once more. Err where there is no memory for its bytes: an answer without bytes is always had.
-    pub fn try_clone(&self) -> Result<Answer, AllocError>
+    pub fn try_clone(&self) -> Result<HandleAnswer, AllocError>
         ensures same { IfOk result (λ answer. answer ≡ self.now) }
         ensures bare { is_bare_answer self.now ≡ true → IsOk result }
     {
         match self {
-            Answer::Number(number) => Ok(Answer::Number(*number)),
-            Answer::Gave(bytes) => Ok(Answer::Gave(bytes.try_clone()?)),
-            Answer::Fine => Ok(Answer::Fine),
-            Answer::Item(item) => Ok(Answer::Item(*item)),
-            Answer::NoItem => Ok(Answer::NoItem),
-            Answer::Failed(error) => Ok(Answer::Failed(*error)),
+            HandleAnswer::Number(number) => Ok(HandleAnswer::Number(*number)),
+            HandleAnswer::Gave(bytes) => Ok(HandleAnswer::Gave(bytes.try_clone()?)),
+            HandleAnswer::Fine => Ok(HandleAnswer::Fine),
+            HandleAnswer::Item(item) => Ok(HandleAnswer::Item(*item)),
+            HandleAnswer::NoItem => Ok(HandleAnswer::NoItem),
+            HandleAnswer::Failed(error) => Ok(HandleAnswer::Failed(*error)),
         }
     }
 }

@@ -4,7 +4,7 @@ ghost use Rattle.std.specs.Fmt.{WritesOnOk};
 ghost use Rattle.blocking_world_laws.specs.Texts.{act_text, answer_text, event_text, note_text, reply_text, starts_text, wake_text, refusal_text, woke_text, standing_text, side_text};
 
 use crate::event::{Act, CopySide, Event, HolderWaker, Reply};
-use crate::step::Answer;
+use crate::step::HandleAnswer;
 use blocking_core::io::Fault;
 use blocking_core::pool::{Refusal, Standing, Woke};
 use std::fmt;
@@ -95,17 +95,17 @@ impl fmt::Display for Act {
     }
 }
 
-impl fmt::Display for Answer {
+impl fmt::Display for HandleAnswer {
     ghost output = { λ answer. Some (answer_text answer) };
 
     fn fmt<W: fmt::Write>(&self, f: &mut fmt::Formatter<W>) -> fmt::Result {
         match self {
-            Answer::Number(number) => write!(f, "{number}"),
-            Answer::Gave(bytes) => write!(f, "{bytes}"),
-            Answer::Fine => f.write_str("ok"),
-            Answer::Item(item) => write!(f, "item {item}"),
-            Answer::NoItem => f.write_str("none"),
-            Answer::Failed(error) => write!(f, "fault {error}"),
+            HandleAnswer::Number(number) => write!(f, "{number}"),
+            HandleAnswer::Gave(bytes) => write!(f, "{bytes}"),
+            HandleAnswer::Fine => f.write_str("ok"),
+            HandleAnswer::Item(item) => write!(f, "item {item}"),
+            HandleAnswer::NoItem => f.write_str("none"),
+            HandleAnswer::Failed(error) => write!(f, "fault {error}"),
         }
     }
 }

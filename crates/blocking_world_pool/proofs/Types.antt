@@ -37,7 +37,7 @@ pub use Rattle.blocking_world_laws.specs.declared.event.WaitEnd.{WaitEnd}
 pub use Rattle.blocking_world_laws.specs.declared.step.Step.{Step}
 pub use Rattle.blocking_world_pool.specs.declared.hand.Hand.{Hand}
 pub use Rattle.blocking_world_pool.specs.declared.hand.Hand.TheVariants.{Free, Holds, Out}
-pub use Rattle.blocking_world_pool.specs.declared.hand.Held.{Held}
-pub use Rattle.blocking_world_pool.specs.declared.hand.Stage.{Stage}
+pub use Rattle.blocking_world_pool.specs.declared.hand.JobInHand.{JobInHand}
+pub use Rattle.blocking_world_pool.specs.declared.hand.TurnStage.{TurnStage}
 pub use Rattle.blocking_world_pool.specs.declared.ticket.Ticket.{Ticket}
 pub use Rattle.blocking_world_pool.specs.declared.tickets.Parking.{Parking}

@@ -8,7 +8,7 @@ use Rattle.blocking_world_pool.specs.Crews.{free_hands}
 use Rattle.blocking_world_pool.specs.Tickets.{JobPool, AreValued, is_due_to_sweep}
 use Rattle.blocking_world_pool.specs.declared.hand.Hand.{Hand}
 use Rattle.blocking_world_pool.specs.declared.hand.Hand.TheVariants.{Free, Holds}
-use Rattle.blocking_world_pool.specs.declared.hand.Held.{Held}
+use Rattle.blocking_world_pool.specs.declared.hand.JobInHand.{JobInHand}
 use Rattle.blocking_world_pool.specs.declared.ticket.Ticket.{Ticket}
 
 -- every start is refused
@@ -37,7 +37,7 @@ NoneDue pool = (serial : ℕ) → is_due_to_sweep (get pool.jobs serial) ≡ fal
 pub record AreIdle (pool : JobPool) (hands : List Hand) : Type 0 where
   pub valued : AreValued pool.jobs
   pub idle : pool.counts.idle ≡ pool.counts.arriving + free_hands hands
-  pub jobless : (n : ℕ) (held : Held) → slice_get hands n ≢ Some (Holds held)
+  pub jobless : (n : ℕ) (held : JobInHand) → slice_get hands n ≢ Some (Holds held)
 
 -- A free worker has passed over jobs: each job that doesn't run has its ticket, a worker is free,
 -- as many idle workers have arrived as before, and where no job was due to be put back, none is.

@@ -20,10 +20,10 @@ use Rattle.blocking_world_pool.specs.Tickets.{JobPool, job_pool_code, AreValued}
 use Rattle.blocking_world_pool.specs.contracts.hand.Hand.{the_row as hands}
 use Rattle.blocking_world_pool.specs.declared.hand.Hand.{Hand}
 use Rattle.blocking_world_pool.specs.declared.hand.Hand.TheVariants.{Out, Free, Holds}
-use Rattle.blocking_world_pool.specs.declared.hand.Held.{Held}
-use Rattle.blocking_world_pool.specs.declared.hand.Stage.{Stage}
-use Rattle.blocking_world_pool.specs.declared.hand.Stage.TheVariants.{Runs, Waits, MustGiveUp}
-use Rattle.blocking_world_pool.specs.declared.hand.Stage.TheVariants.{MustWake, GaveUp}
+use Rattle.blocking_world_pool.specs.declared.hand.JobInHand.{JobInHand}
+use Rattle.blocking_world_pool.specs.declared.hand.TurnStage.{TurnStage}
+use Rattle.blocking_world_pool.specs.declared.hand.TurnStage.TheVariants.{Runs, Waits, MustGiveUp}
+use Rattle.blocking_world_pool.specs.declared.hand.TurnStage.TheVariants.{MustWake, GaveUp}
 use Rattle.blocking_world_pool.specs.declared.crew.InHand.{InHand}
 use Rattle.blocking_world_pool.specs.declared.tickets.Outcome.{Outcome}
 use Rattle.blocking_world_pool.specs.declared.tickets.Outcome.TheVariants as outcome
@@ -42,7 +42,7 @@ crew_code = code_by (JobPool × List Hand) (coded× job_pool_code (coded_list ha
 -- Whether a job may act so, where it is in its turn: while it runs it doesn't give up; while it
 -- waits it does nothing; one that has to give up does that; and then it calls the waker that it
 -- took, no more.
-abbrev pub may_act : Stage → Act → Bool
+abbrev pub may_act : TurnStage → Act → Bool
 may_act Runs (Answered answer) = true
 may_act Runs (RoomFree n) = true
 may_act Runs RoomShut = true
@@ -61,7 +61,7 @@ may_act MustWake HolderWoken = true
 may_act _ act = false
 
 -- where it is after that
-abbrev pub stage_after : Act → Stage → Stage
+abbrev pub stage_after : Act → TurnStage → TurnStage
 stage_after JobParked stage = Waits
 stage_after (GivesUp Taken) stage = MustWake
 stage_after (GivesUp Absent) stage = GaveUp
@@ -69,18 +69,18 @@ stage_after HolderWoken MustWake = GaveUp
 stage_after _ stage = stage
 
 -- whether a turn may end here, and its job with it
-abbrev pub may_end : Stage → Bool
+abbrev pub may_end : TurnStage → Bool
 may_end Runs = true
 may_end GaveUp = true
 may_end _ = false
 
 -- whether the job waits
-abbrev pub is_waiting : Stage → Bool
+abbrev pub is_waiting : TurnStage → Bool
 is_waiting Waits = true
 is_waiting _ = false
 
 -- how a job ends whose turn ends here
-abbrev pub outcome_of : Stage → Outcome
+abbrev pub outcome_of : TurnStage → Outcome
 outcome_of Runs = outcome.Done
 outcome_of Waits = outcome.Done
 outcome_of MustGiveUp = outcome.Dropped
@@ -121,21 +121,21 @@ pass_in (Free pass) = Some pass
 pass_in _ = None
 
 -- the job in a hand
-abbrev pub held_in : Hand → Option Held
+abbrev pub held_in : Hand → Option JobInHand
 held_in (Holds held) = Some held
 held_in _ = None
 
 -- the job in a hand, if this holds of where it is in its turn
-abbrev pub held_if : (Stage → Bool) → Hand → Option Held
+abbrev pub held_if : (TurnStage → Bool) → Hand → Option JobInHand
 held_if test (Holds held) = if test held.stage then Some held else None
 held_if test _ = None
 
 -- the job in a hand whose turn may end
-abbrev pub over_in : Hand → Option Held
+abbrev pub over_in : Hand → Option JobInHand
 over_in hand = held_if may_end hand
 
 -- the job in a hand that waits
-abbrev pub waiting_in : Hand → Option Held
+abbrev pub waiting_in : Hand → Option JobInHand
 waiting_in hand = held_if is_waiting hand
 
 -- the serial of the job in a hand, if it may act so
@@ -144,7 +144,7 @@ acting_in (Holds held) act = if may_act held.stage act then Some held.turn.seria
 acting_in _ act = None
 
 -- a job after it acted so
-abbrev pub held_after_act : Held → Act → Held
+abbrev pub held_after_act : JobInHand → Act → JobInHand
 held_after_act held act = record held { stage = stage_after act held.stage }
 
 -- the hand after that
@@ -193,10 +193,10 @@ busy_hands hands = sum_of one_if_busy hands
 -- runs, and is in no other; each job that doesn't run has its ticket in the pool.
 pub record IsReady (crew : Crew) : Type 0 where
   pub idle : crew.pool.counts.idle ≡ crew.pool.counts.arriving + free_hands crew.hands
-  pub runs : (v : ℕ) (held : Held) → hand_at crew.hands v ≡ Holds held
+  pub runs : (v : ℕ) (held : JobInHand) → hand_at crew.hands v ≡ Holds held
       → is_running_as crew.pool.jobs held.turn ≡ true
   pub apart :
-      (v w : ℕ) (one other : Held) → hand_at crew.hands v ≡ Holds one
+      (v w : ℕ) (one other : JobInHand) → hand_at crew.hands v ≡ Holds one
       → hand_at crew.hands w ≡ Holds other
       → one.turn.serial ≡ other.turn.serial → v ≡ w
   pub valued : AreValued crew.pool.jobs

@@ -43,9 +43,9 @@ use Rattle.blocking_world_pool.specs.Tickets.{Cancels, SweepsTo, to_sweep, Waits
 use Rattle.blocking_world_pool.specs.Tickets.{pool_after_let_go, with_client_limit}
 use Rattle.blocking_world_pool.specs.declared.hand.Hand.{Hand}
 use Rattle.blocking_world_pool.specs.declared.hand.Hand.TheVariants.{Out, Free, Holds}
-use Rattle.blocking_world_pool.specs.declared.hand.Held.{Held}
-use Rattle.blocking_world_pool.specs.declared.hand.Stage.{Stage}
-use Rattle.blocking_world_pool.specs.declared.hand.Stage.TheVariants as stage
+use Rattle.blocking_world_pool.specs.declared.hand.JobInHand.{JobInHand}
+use Rattle.blocking_world_pool.specs.declared.hand.TurnStage.{TurnStage}
+use Rattle.blocking_world_pool.specs.declared.hand.TurnStage.TheVariants as stage
 use Rattle.blocking_world_pool.specs.declared.ticket.Ticket.{Ticket}
 use Rattle.blocking_world_pool.specs.declared.tickets.Parking.{Parking}
 use Rattle.blocking_world_pool.specs.declared.tickets.Parking.TheVariants as parking
@@ -93,11 +93,11 @@ pub data Move : Type 0 where
   -- worker v finds no job
   TakesNone : ℕ → WorkerPass → WorkerPass → Move
   -- the job in the hand of worker v acts so
-  Works : ℕ → Held → Act → Move
+  Works : ℕ → JobInHand → Act → Move
   -- the turn of worker v's job ends, and the job is over
-  EndsTurn : ℕ → Held → WorkerPass → Move
+  EndsTurn : ℕ → JobInHand → WorkerPass → Move
   -- the turn of worker v's job ends, which waits, and this becomes of it
-  Parks : ℕ → Held → Ticket → Parking → JobPool → Move
+  Parks : ℕ → JobInHand → Ticket → Parking → JobPool → Move
   -- worker v has waited, and stays or stops
   HasWaited : ℕ → WorkerPass → WaitEnd → Waited → Growth → JobPool → Move
   -- the limit is set
@@ -233,7 +233,7 @@ event_of crew (Tells party act) = seen party None act (next_start crew) no_growt
 -- ---- what it leaves
 
 -- where a job that is taken begins its turn
-abbrev pub first_stage : Bool → Stage
+abbrev pub first_stage : Bool → TurnStage
 first_stage false = stage.Runs
 first_stage true = stage.MustGiveUp
 

@@ -31,9 +31,9 @@ use Rattle.blocking_world_pool.specs.Moves.{next_start, is_aside}
 use Rattle.blocking_world_pool.specs.Tickets.{JobPool}
 use Rattle.blocking_world_pool.specs.declared.hand.Hand.{Hand}
 use Rattle.blocking_world_pool.specs.declared.hand.Hand.TheVariants.{Out, Free, Holds}
-use Rattle.blocking_world_pool.specs.declared.hand.Held.{Held}
-use Rattle.blocking_world_pool.specs.declared.hand.Stage.{Stage}
-use Rattle.blocking_world_pool.specs.declared.hand.Stage.TheVariants as stage
+use Rattle.blocking_world_pool.specs.declared.hand.JobInHand.{JobInHand}
+use Rattle.blocking_world_pool.specs.declared.hand.TurnStage.{TurnStage}
+use Rattle.blocking_world_pool.specs.declared.hand.TurnStage.TheVariants as stage
 use Rattle.blocking_world_pool.specs.declared.ticket.Ticket.{Ticket}
 
 -- ---- the pool's jobs
@@ -126,7 +126,7 @@ HandAs (Free pass) there job = (there ≡ true) × (job ≡ None)
 HandAs (Holds held) there job = (there ≡ true) × (job ≡ Some held.turn.serial)
 
 -- where a job is in its turn, in the words of the laws
-abbrev pub turn_of : Stage → Turn
+abbrev pub turn_of : TurnStage → Turn
 turn_of stage.Runs = GoesOn
 turn_of stage.Waits = IsWaiting
 turn_of stage.MustGiveUp = MustGiveUp
@@ -136,7 +136,7 @@ turn_of stage.GaveUp = HasGivenUp
 -- Each hand is as it was seen, and the job in it is there in its turn.
 pub record Handed (crew : Crew) (past : List Moment) : Type 0 where
   pub each : (v : ℕ) → HandAs (hand_at crew.hands v) (is_there past v) (hand past v)
-  pub turn_is : (v : ℕ) (held : Held) → hand_at crew.hands v ≡ Holds held
+  pub turn_is : (v : ℕ) (held : JobInHand) → hand_at crew.hands v ≡ Holds held
       → turn past held.turn.serial ≡ turn_of held.stage
 
 -- ---- all of it
@@ -205,7 +205,7 @@ HoldsAtRest past party number = (s : ℕ) → has_ticket (standing past s) ≡ t
 -- job that is queued or parked.
 abbrev pub IsAsked : Crew → List Moment → Step → Call → Type 0
 IsAsked crew past step (Add party client added) = client ≡ client_of_step past step
-IsAsked crew past step (Park v ticket) = (held : Held) → hand_at crew.hands v ≡ Holds held
+IsAsked crew past step (Park v ticket) = (held : JobInHand) → hand_at crew.hands v ≡ Holds held
     → ticket.is_marked ≡ is_marked past held.turn.serial
 IsAsked crew past step (Wake party number) = IsNumberOf crew.pool number
 IsAsked crew past step (Cancel party number) = IsNumberOf crew.pool number

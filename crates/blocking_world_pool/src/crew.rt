@@ -4,7 +4,7 @@ ghost use Rattle.blocking_world_laws.specs.Answers.{wait_act};
 ghost use Rattle.blocking_world_laws.specs.Steps.{may_limit};
 ghost use Rattle.blocking_world_pool.specs.Moves.{Moves, NeverAsked, hand_after_take, job_of_take, act_of_take, hand_after_park, parked_act, hand_after_wait, is_stop, seen as what_is_seen, nothing as what_is_not};
 
-use crate::hand::{Hand, Held, Stage};
+use crate::hand::{Hand, JobInHand, TurnStage};
 use crate::ticket::Ticket;
 use crate::tickets::{Grown, NO_GROWTH, Parking, Tickets};
 use crate::workers::Workers;
@@ -37,7 +37,7 @@ pub struct InHand {
     /// Its number.
     pub number: JobNo,
     /// Where it is in its turn.
-    pub stage: Stage,
+    pub stage: TurnStage,
 }
 
 // Contracts see the pool and the hands.
@@ -119,7 +119,7 @@ impl Crew {
     {
         let first = self.next_start();
         let party = Party::Worker(worker);
-        let Some(pass) = self.workers.pass(worker) else {
+        let Some(pass) = self.workers.take_pass(worker) else {
             return nothing(party, first);
         };
         let (took, growth) = self.tickets.take(pass, starter);
@@ -147,10 +147,10 @@ impl Crew {
     {
         let first = self.next_start();
         let party = Party::Worker(worker);
-        let Some(held) = self.workers.over(worker) else {
+        let Some(held) = self.workers.take_ended(worker) else {
             return nothing(party, first);
         };
-        let Held { turn, stage } = held;
+        let JobInHand { turn, stage } = held;
         let serial = turn.job().serial();
         let outcome = stage.outcome();
         let pass = self.tickets.end(turn, outcome);
@@ -166,10 +166,10 @@ impl Crew {
     {
         let first = self.next_start();
         let party = Party::Worker(worker);
-        let Some(held) = self.workers.waiting(worker) else {
+        let Some(held) = self.workers.take_waiting(worker) else {
             return nothing(party, first);
         };
-        let Held { turn, stage: _ } = held;
+        let JobInHand { turn, stage: _ } = held;
         let serial = turn.job().serial();
         let (hand, act) = parked(self.tickets.park(turn, ticket), serial);
         self.workers.put(worker, hand);
@@ -183,7 +183,7 @@ impl Crew {
     {
         let first = self.next_start();
         let party = Party::Worker(worker);
-        let Some(pass) = self.workers.pass(worker) else {
+        let Some(pass) = self.workers.take_pass(worker) else {
             return nothing(party, first);
         };
         let (waited, growth) = self.tickets.after_wait(pass, end.has_timed_out(), starter);
@@ -334,18 +334,18 @@ fn received(took: Took<Ticket>) -> (Hand, Option<u64>, Act)
         Took::Idle(pass) => (Hand::Free(pass), None, Act::TookNone),
         Took::Run(turn, _ticket) => {
             let serial = turn.job().serial();
-            let stage = Stage::Runs;
+            let stage = TurnStage::Runs;
             (
-                Hand::Holds(Held { turn, stage }),
+                Hand::Holds(JobInHand { turn, stage }),
                 Some(serial),
                 Act::Took(serial),
             )
         }
         Took::Drop(turn, _ticket) => {
             let serial = turn.job().serial();
-            let stage = Stage::MustGiveUp;
+            let stage = TurnStage::MustGiveUp;
             (
-                Hand::Holds(Held { turn, stage }),
+                Hand::Holds(JobInHand { turn, stage }),
                 Some(serial),
                 Act::TookDropped(serial),
             )
@@ -362,8 +362,11 @@ fn parked(parking: Parking, serial: u64) -> (Hand, Act)
         Parking::Parked(pass) => (Hand::Free(pass), Act::Ended(serial, Standing::Parked)),
         Parking::Queued(pass) => (Hand::Free(pass), Act::Ended(serial, Standing::Queued)),
         Parking::HandedOut(turn) => {
-            let stage = Stage::MustGiveUp;
-            (Hand::Holds(Held { turn, stage }), Act::HandedOut(serial))
+            let stage = TurnStage::MustGiveUp;
+            (
+                Hand::Holds(JobInHand { turn, stage }),
+                Act::HandedOut(serial),
+            )
         }
     }
 }

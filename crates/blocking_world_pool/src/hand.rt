@@ -9,7 +9,7 @@ use std::mem;
 
 /// Where a job is in its turn.
 #[derive(Clone, Copy, Debug)]
-pub enum Stage {
+pub enum TurnStage {
     /// It runs.
     Runs,
     /// It waits for a wake, and its turn is to end.
@@ -23,11 +23,11 @@ pub enum Stage {
 }
 
 /// A job in a worker's hand: the turn that it runs in, and where it is in it.
-pub struct Held {
+pub struct JobInHand {
     /// The turn, which tells the job's number.
     pub turn: Turn,
     /// Where the job is in its turn.
-    pub stage: Stage,
+    pub stage: TurnStage,
 }
 
 /// The hand of a worker.
@@ -37,10 +37,10 @@ pub enum Hand {
     /// The worker is idle.
     Free(WorkerPass),
     /// The worker runs a job.
-    Holds(Held),
+    Holds(JobInHand),
 }
 
-impl Stage {
+impl TurnStage {
     ghost use Rattle.blocking_world_pool.specs.Crews.{may_act, stage_after, may_end, outcome_of};
 
     /// Whether a job may act so, where it is in its turn.
@@ -59,23 +59,23 @@ impl Stage {
             | Act::Taken(_, _)
             | Act::JobClosed(_)
             | Act::ResultPut(_)
-            | Act::Finished(_) => matches!(self, Stage::Runs),
-            Act::GaveUp(_) => matches!(self, Stage::MustGiveUp),
-            Act::HolderWoken => matches!(self, Stage::Runs | Stage::MustWake),
+            | Act::Finished(_) => matches!(self, TurnStage::Runs),
+            Act::GaveUp(_) => matches!(self, TurnStage::MustGiveUp),
+            Act::HolderWoken => matches!(self, TurnStage::Runs | TurnStage::MustWake),
             _ => false,
         }
     }
 
     /// Where the job is after it acted so.
-    pub fn after(self, act: &Act) -> Stage
+    pub fn after(self, act: &Act) -> TurnStage
         ensures { result ≡ stage_after act.now self }
     {
         match act {
-            Act::JobParked => Stage::Waits,
-            Act::GaveUp(HolderWaker::Taken) => Stage::MustWake,
-            Act::GaveUp(HolderWaker::Absent) => Stage::GaveUp,
+            Act::JobParked => TurnStage::Waits,
+            Act::GaveUp(HolderWaker::Taken) => TurnStage::MustWake,
+            Act::GaveUp(HolderWaker::Absent) => TurnStage::GaveUp,
             Act::HolderWoken => match self {
-                Stage::MustWake => Stage::GaveUp,
+                TurnStage::MustWake => TurnStage::GaveUp,
                 stage => stage,
             },
             _ => self,
@@ -86,7 +86,7 @@ impl Stage {
     pub(crate) fn may_end(self) -> bool
         ensures { result ≡ may_end self }
     {
-        matches!(self, Stage::Runs | Stage::GaveUp)
+        matches!(self, TurnStage::Runs | TurnStage::GaveUp)
     }
 
     // How a job ends whose turn ends here.
@@ -94,8 +94,8 @@ impl Stage {
         ensures { result ≡ outcome_of self }
     {
         match self {
-            Stage::Runs | Stage::Waits => Outcome::Done,
-            Stage::MustGiveUp | Stage::MustWake | Stage::GaveUp => Outcome::Dropped,
+            TurnStage::Runs | TurnStage::Waits => Outcome::Done,
+            TurnStage::MustGiveUp | TurnStage::MustWake | TurnStage::GaveUp => Outcome::Dropped,
         }
     }
 }
@@ -117,7 +117,7 @@ impl Hand {
     }
 
     // The pass of an idle worker, whose hand is out then; None, and no change, where the worker isn't idle.
-    pub(crate) fn pass(&mut self) -> Option<WorkerPass>
+    pub(crate) fn take_pass(&mut self) -> Option<WorkerPass>
         ensures pass { result ≡ pass_in self.old }
         ensures after { self.new ≡ (if is_some result then Hand.Out else self.old) }
     {
@@ -132,7 +132,7 @@ impl Hand {
     }
 
     // The job whose turn may end, and the hand is out then; None, and no change, elsewhere.
-    pub(crate) fn over(&mut self) -> Option<Held>
+    pub(crate) fn take_ended(&mut self) -> Option<JobInHand>
         ensures held { result ≡ over_in self.old }
         ensures after { self.new ≡ (if is_some result then Hand.Out else self.old) }
     {
@@ -153,7 +153,7 @@ impl Hand {
     }
 
     // The job that waits, and the hand is out then; None, and no change, elsewhere.
-    pub(crate) fn waiting(&mut self) -> Option<Held>
+    pub(crate) fn take_waiting(&mut self) -> Option<JobInHand>
         ensures held { result ≡ waiting_in self.old }
         ensures after { self.new ≡ (if is_some result then Hand.Out else self.old) }
     {
@@ -164,7 +164,7 @@ impl Hand {
                 None
             }
             Hand::Holds(held) => {
-                if let Stage::Waits = held.stage {
+                if let TurnStage::Waits = held.stage {
                     return Some(held);
                 }
                 self.put(Hand::Holds(held));
@@ -197,7 +197,7 @@ impl Hand {
             Hand::Out => {}
             Hand::Free(pass) => self.put(Hand::Free(pass)),
             Hand::Holds(held) => {
-                let Held { turn, stage: _ } = held;
+                let JobInHand { turn, stage: _ } = held;
                 let pass = tickets.end(turn, Outcome::Done);
                 self.put(Hand::Free(pass));
             }

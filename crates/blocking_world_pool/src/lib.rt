@@ -13,7 +13,7 @@ mod tickets;
 mod workers;
 
 pub use crew::{Added, Crew, InHand};
-pub use hand::{Hand, Held, Stage};
+pub use hand::{Hand, JobInHand, TurnStage};
 pub use starts::{NoStarts, PlannedStarts};
 pub use ticket::Ticket;
 pub use tickets::Parking;

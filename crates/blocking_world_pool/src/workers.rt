@@ -5,7 +5,7 @@ ghost use Rattle.std.specs.Borrow.{sem};
 ghost use Rattle.blocking_world_pool.specs.Closing.{AreIdle};
 ghost use Rattle.blocking_world_pool.specs.Crews.{IsReady};
 
-use crate::hand::{Hand, Held};
+use crate::hand::{Hand, JobInHand};
 use crate::tickets::Tickets;
 use blocking_core::pool::{Starter, WorkerPass};
 use blocking_world_laws::Act;
@@ -58,30 +58,30 @@ impl Workers {
     }
 
     // The pass of this worker, if it is idle. Its hand is out then.
-    pub(crate) fn pass(&mut self, worker: usize) -> Option<WorkerPass>
+    pub(crate) fn take_pass(&mut self, worker: usize) -> Option<WorkerPass>
         ensures pass { result ≡ pass_in (hand_at self.old worker) }
         ensures after { self.new ≡
             (if is_some result then with_hand self.old worker Hand.Out else self.old) }
     {
-        self.at(worker)?.pass()
+        self.at(worker)?.take_pass()
     }
 
     // The job of this worker whose turn may end, if it has one. Its hand is out then.
-    pub(crate) fn over(&mut self, worker: usize) -> Option<Held>
+    pub(crate) fn take_ended(&mut self, worker: usize) -> Option<JobInHand>
         ensures held { result ≡ over_in (hand_at self.old worker) }
         ensures after { self.new ≡
             (if is_some result then with_hand self.old worker Hand.Out else self.old) }
     {
-        self.at(worker)?.over()
+        self.at(worker)?.take_ended()
     }
 
     // The job of this worker that waits, if it has one. Its hand is out then.
-    pub(crate) fn waiting(&mut self, worker: usize) -> Option<Held>
+    pub(crate) fn take_waiting(&mut self, worker: usize) -> Option<JobInHand>
         ensures held { result ≡ waiting_in (hand_at self.old worker) }
         ensures after { self.new ≡
             (if is_some result then with_hand self.old worker Hand.Out else self.old) }
     {
-        self.at(worker)?.waiting()
+        self.at(worker)?.take_waiting()
     }
 
     // Puts something into the hand of this worker, which is out.

@@ -40,8 +40,8 @@ pub use Rattle.blocking_world_laws.specs.declared.event.Party.{Party}
 pub use Rattle.blocking_world_laws.specs.declared.event.Party.TheVariants.{Owner as ByOwner, Pool}
 pub use Rattle.blocking_world_laws.specs.declared.event.Party.TheVariants.{Task as ByTask, Worker}
 pub use Rattle.blocking_world_laws.specs.declared.event.Reply.{Reply}
-pub use Rattle.blocking_world_laws.specs.declared.step.Answer.{Answer}
-pub use Rattle.blocking_world_laws.specs.declared.step.Answer.TheVariants.{Gave, Number}
+pub use Rattle.blocking_world_laws.specs.declared.step.HandleAnswer.{HandleAnswer}
+pub use Rattle.blocking_world_laws.specs.declared.step.HandleAnswer.TheVariants.{Gave, Number}
 pub use Rattle.blocking_world_laws.specs.declared.step.HandleCall.{HandleCall}
 pub use Rattle.blocking_world_laws.specs.declared.step.Step.{Step}
 pub use Rattle.blocking_world_laws.specs.declared.step.Step.TheVariants.{Arrive, Ask, Copy}
@@ -55,8 +55,8 @@ pub use Rattle.blocking_world_laws.specs.declared.step.TaskCall.TheVariants.{Can
 pub use Rattle.blocking_world_laws.specs.declared.step.TaskCall.TheVariants.{Poll}
 pub use Rattle.blocking_world_pool.specs.declared.hand.Hand.{Hand}
 pub use Rattle.blocking_world_pool.specs.declared.hand.Hand.TheVariants.{Free, Holds, Out}
-pub use Rattle.blocking_world_pool.specs.declared.hand.Held.{Held}
-pub use Rattle.blocking_world_pool.specs.declared.hand.Stage.{Stage}
+pub use Rattle.blocking_world_pool.specs.declared.hand.JobInHand.{JobInHand}
+pub use Rattle.blocking_world_pool.specs.declared.hand.TurnStage.{TurnStage}
 pub use Rattle.blocking_world_pool.specs.declared.ticket.Ticket.{Ticket}
 pub use Rattle.blocking_world_pool.specs.declared.tickets.Parking.{Parking}
 pub use Rattle.blocking_world_holders.specs.declared.job.SessionJob.{SessionJob}

@@ -6,8 +6,8 @@ use Rattle.blocking_world_holders.specs.declared.owner.OwnerNext.{OwnerNext}
 use Rattle.blocking_world_holders.specs.declared.owner.OwnerNext.TheVariants as next
 use Rattle.blocking_world_laws.specs.declared.event.Act.{Act}
 use Rattle.blocking_world_laws.specs.declared.event.Act.TheVariants.{Asked, Got, Peeked, Answered}
-use Rattle.blocking_world_laws.specs.declared.step.Answer.{Answer}
-use Rattle.blocking_world_laws.specs.declared.step.Answer.TheVariants.{Gave}
+use Rattle.blocking_world_laws.specs.declared.step.HandleAnswer.{HandleAnswer}
+use Rattle.blocking_world_laws.specs.declared.step.HandleAnswer.TheVariants.{Gave}
 use Rattle.blocking_world_laws.specs.declared.step.HandleCall.{HandleCall}
 use Rattle.blocking_world_laws.specs.declared.step.HandleCall.TheVariants.{Write}
 use Rattle.blocking_world_laws.specs.declared.step.Step.{Step}
@@ -17,7 +17,7 @@ use Rattle.blocking_world_state.specs.declared.row.Core.{Core}
 use Rattle.blocking_world_state.specs.declared.row.Core.TheVariants as core
 
 -- the bytes of an answer
-abbrev pub bytes_of_answer : Answer → List ℕ
+abbrev pub bytes_of_answer : HandleAnswer → List ℕ
 bytes_of_answer (Gave bytes) = bytes
 bytes_of_answer _ = []
 

@@ -4,7 +4,7 @@ use Rattle.std.specs.Prelude.{◌≡◌, ℕ, Bool, true, false, ◌-◌, List, 
 use Rattle.std.specs.Prelude.{slice_get, slice_set, Option, Some, None, is_some, Result, Ok, Err}
 use Rattle.blocking_world_pool.specs.Moves as crew
 use Rattle.blocking_world_pool.specs.Moves.{next_start, nothing, NeverAsked}
-use Rattle.blocking_world_pool.specs.declared.hand.Stage.TheVariants as stage
+use Rattle.blocking_world_pool.specs.declared.hand.TurnStage.TheVariants as stage
 use Rattle.blocking_world_holders.specs.OwnerSteps as owners
 use Rattle.blocking_world_holders.specs.Owners.{Owner, Did, did, may_ask, new_job_of, new_owner}
 use Rattle.blocking_world_holders.specs.Owners.{next_of, note_at, number_of, owner_after_delivery}
@@ -24,7 +24,7 @@ use Rattle.blocking_world_laws.specs.declared.event.Party.TheVariants.{Owner as 
 use Rattle.blocking_world_laws.specs.declared.event.Party.TheVariants.{Task as ByTask, Pool}
 use Rattle.blocking_world_laws.specs.declared.event.WaitEnd.{WaitEnd}
 use Rattle.blocking_world_laws.specs.declared.event.WaitEnd.TheVariants.{Woken, TimedOut}
-use Rattle.blocking_world_laws.specs.declared.step.Answer.{Answer}
+use Rattle.blocking_world_laws.specs.declared.step.HandleAnswer.{HandleAnswer}
 use Rattle.blocking_world_laws.specs.declared.step.HandleCall.{HandleCall}
 use Rattle.blocking_world_laws.specs.declared.step.Step.{Step}
 use Rattle.blocking_world_laws.specs.declared.step.Step.TheVariants.{New, Ask, Own, DropOwner}
@@ -66,7 +66,7 @@ pub data Move : Type 0 where
   -- the job in the hand of worker v does this
   Works : ℕ → InHand → Done → Move
   -- the job in the hand of worker v is answered so
-  IsAnswered : ℕ → InHand → Answer → Move
+  IsAnswered : ℕ → InHand → HandleAnswer → Move
   -- the job in the hand of worker v waits, and its turn ends
   Parks : ℕ → InHand → Move
   -- the crew alone is called

@@ -6,7 +6,7 @@ use Rattle.std.specs.Coded.{Coded, code_by, coded×, coded_list}
 use Rattle.blocking_world_pool.specs.Crews.{Crew, crew_code, hand_at}
 use Rattle.blocking_world_pool.specs.declared.hand.Hand.{Hand}
 use Rattle.blocking_world_pool.specs.declared.hand.Hand.TheVariants.{Holds}
-use Rattle.blocking_world_pool.specs.declared.hand.Held.{Held}
+use Rattle.blocking_world_pool.specs.declared.hand.JobInHand.{JobInHand}
 use Rattle.blocking_world_holders.specs.Owners.{Owner, is_gone}
 use Rattle.blocking_world_holders.specs.Tasks.{Task, has_let_go}
 use Rattle.blocking_world_holders.specs.contracts.owner.Owner.{the_row as owners}
@@ -56,11 +56,11 @@ owner_of all (Some serial) = owner_by (row_of all serial)
 
 -- A job in a hand, with its row.
 pub record InHand : Type 0 where
-  pub held : Held
+  pub held : JobInHand
   pub row : Row
 
 -- the job in a hand with its row, where the row is there
-abbrev pub job_with : Held → Option Row → Option InHand
+abbrev pub job_with : JobInHand → Option Row → Option InHand
 job_with held None = None
 job_with held (Some row) = Some (record { held = held; row = row })
 

@@ -4,8 +4,8 @@ use Rattle.std.specs.Prelude.{◌≡◌, ℕ, Bool, true, false, List, slice_get
 use Rattle.std.specs.Prelude.{None}
 use Rattle.blocking_core.specs.declared.job.Action.{Action}
 use Rattle.blocking_core.specs.declared.job.Action.TheVariants as action
-use Rattle.blocking_world_pool.specs.declared.hand.Stage.{Stage}
-use Rattle.blocking_world_pool.specs.declared.hand.Stage.TheVariants as stage
+use Rattle.blocking_world_pool.specs.declared.hand.TurnStage.{TurnStage}
+use Rattle.blocking_world_pool.specs.declared.hand.TurnStage.TheVariants as stage
 use Rattle.blocking_world_holders.specs.Calls as calls
 use Rattle.blocking_world_holders.specs.OwnerSteps as owners
 use Rattle.blocking_world_holders.specs.OwnerSteps.{OwnerStep}
@@ -24,8 +24,8 @@ use Rattle.blocking_world_laws.specs.declared.event.Act.{Act}
 use Rattle.blocking_world_laws.specs.declared.event.Party.{Party}
 use Rattle.blocking_world_laws.specs.declared.event.Party.TheVariants.{Owner as ByOwner}
 use Rattle.blocking_world_laws.specs.declared.event.Party.TheVariants.{Task as ByTask}
-use Rattle.blocking_world_laws.specs.declared.step.Answer.{Answer}
-use Rattle.blocking_world_laws.specs.declared.step.Answer.TheVariants.{Number}
+use Rattle.blocking_world_laws.specs.declared.step.HandleAnswer.{HandleAnswer}
+use Rattle.blocking_world_laws.specs.declared.step.HandleAnswer.TheVariants.{Number}
 use Rattle.blocking_pool.specs.Jobs.{JobNumber}
 use Rattle.blocking_world_state.specs.declared.row.Core.{Core}
 use Rattle.blocking_world_state.specs.declared.row.Core.TheVariants as core
@@ -71,7 +71,7 @@ action_of (core.Call k call) = call_action call.next
 action_of (core.Session h job) = jobs.action_of job
 
 -- the next action of a worker, by where its job is in its turn
-abbrev pub next_of : Stage → Core → WorkerAction
+abbrev pub next_of : TurnStage → Core → WorkerAction
 next_of stage.Runs core = next_in_turn GoesOn (action_of core)
 next_of stage.Waits core = EndsTurn
 next_of stage.MustGiveUp core = GivesUp
@@ -103,19 +103,19 @@ call_step_by action.Deliver n = Some tasks.CallsWaker
 call_step_by _ n = None
 
 -- the step of its task that it takes where it stands in its turn so, if it takes one
-abbrev pub call_step : Stage → calls.Progress → Option TaskStep
+abbrev pub call_step : TurnStage → calls.Progress → Option TaskStep
 call_step stage.Runs call = call_step_by call.next call.number
 call_step stage.MustGiveUp call = Some tasks.GivesUp
 call_step stage.MustWake call = Some tasks.CallsWaker
 call_step _ call = None
 
 -- the core of a job whose waker was called: one that gave up stays as it was
-abbrev pub call_after_wake : Stage → calls.Progress → calls.Progress
+abbrev pub call_after_wake : TurnStage → calls.Progress → calls.Progress
 call_after_wake stage.Runs call = calls.progress_after_wake call
 call_after_wake _ call = call
 
 -- how far the job is after a step of its task
-abbrev pub call_after : TaskStep → Stage → Task → calls.Progress → calls.Progress
+abbrev pub call_after : TaskStep → TurnStage → Task → calls.Progress → calls.Progress
 call_after (tasks.IsCalled asked) at task call = call
 call_after (tasks.IsAnswered n) at task call = calls.progress_after_answer call n
 call_after (tasks.Finishes n) at task call = calls.progress_after_finish call (finish_wakes task n)
@@ -125,7 +125,7 @@ call_after tasks.CallsWaker at task call = call_after_wake at call
 -- ---- the job of a session acts
 
 -- the step of its owner that its next action is, where that is the job's own
-abbrev pub session_step : Stage → SessionJob → Option OwnerStep
+abbrev pub session_step : TurnStage → SessionJob → Option OwnerStep
 session_step stage.Runs job = Some (owners.Works job)
 session_step stage.MustGiveUp job = Some owners.GivesUp
 session_step stage.MustWake job = Some owners.CallsWaker
@@ -147,7 +147,7 @@ pub record Done : Type 0 where
   pub owners : List Owner
 
 -- the act of a call's job, where there is a step and the task is there
-abbrev pub call_done : ℕ → calls.Progress → Stage → List Task → List Owner → Option Task
+abbrev pub call_done : ℕ → calls.Progress → TurnStage → List Task → List Owner → Option Task
     → Option TaskStep → Option Done
 call_done k call at all rows (Some task) (Some step) = Some (record {
   act = tasks.act_of step task;
@@ -176,7 +176,7 @@ session_done h job all rows (Some owner) (Some step) =
 session_done h job all rows _ _ = None
 
 -- What a job does next that is its own to do.
-abbrev pub done : Stage → Core → List Task → List Owner → Option Done
+abbrev pub done : TurnStage → Core → List Task → List Owner → Option Done
 done at (core.Call k call) all rows =
     call_done k call at all rows (slice_get all k) (call_step at call)
 done at (core.Session h job) all rows =
@@ -193,12 +193,12 @@ IsDone (Some did) core tasks owners seen new_core new_tasks new_owners =
     × (new_owners ≡ did.owners)
 
 -- the core of a job that was answered so
-abbrev pub call_answered : Answer → calls.Progress → calls.Progress
+abbrev pub call_answered : HandleAnswer → calls.Progress → calls.Progress
 call_answered (Number n) call = calls.progress_after_answer call n
 call_answered _ call = call
 
 -- (of any kind)
-abbrev pub core_after_answer : Answer → Core → Core
+abbrev pub core_after_answer : HandleAnswer → Core → Core
 core_after_answer answer (core.Call k call) = core.Call k (call_answered answer call)
 core_after_answer answer (core.Session h job) = core.Session h (jobs.job_after_answer job answer)
 
@@ -206,7 +206,8 @@ core_after_answer answer (core.Session h job) = core.Session h (jobs.job_after_a
 
 -- what is seen of a call's job and its task, and what both are then, by the step that it takes, if
 -- it takes one
-abbrev pub IsActed : Option TaskStep → Stage → calls.Progress → Task → Option Act → calls.Progress
+abbrev pub IsActed : Option TaskStep → TurnStage → calls.Progress → Task → Option Act
+    → calls.Progress
     → Task → Type 0
 IsActed None at call task seen new_call new_task =
     (seen ≡ None) × (new_call ≡ call) × (new_task ≡ task)

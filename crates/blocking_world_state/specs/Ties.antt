@@ -4,9 +4,9 @@ use Rattle.std.specs.Prelude.{slice_get, Option, Some, None}
 use Rattle.blocking_world_pool.specs.Crews.{hand_at}
 use Rattle.blocking_world_pool.specs.Ties.{CrewHolds, Holding, IsNumberOf, Served}
 use Rattle.blocking_world_pool.specs.declared.hand.Hand.TheVariants.{Holds}
-use Rattle.blocking_world_pool.specs.declared.hand.Held.{Held}
-use Rattle.blocking_world_pool.specs.declared.hand.Stage.{Stage}
-use Rattle.blocking_world_pool.specs.declared.hand.Stage.TheVariants as stage
+use Rattle.blocking_world_pool.specs.declared.hand.JobInHand.{JobInHand}
+use Rattle.blocking_world_pool.specs.declared.hand.TurnStage.{TurnStage}
+use Rattle.blocking_world_pool.specs.declared.hand.TurnStage.TheVariants as stage
 use Rattle.blocking_world_holders.specs.Calls.{RanAs}
 use Rattle.blocking_world_holders.specs.OwnerTies.{Owned}
 use Rattle.blocking_world_holders.specs.Owners.{Owner, note_at, number_of}
@@ -80,7 +80,7 @@ pub record RowAs (w : Parts) (past : List Moment) (s : ℕ) (row : Row) : Type 0
       PlaceAs (standing past s) (turn past s) (is_at_first row.core) (acts_of s (events past))
 
 -- a job that gave up, of whatever kind, has a waker to call, or nothing
-abbrev pub GaveAs : Stage → List Act → Type 0
+abbrev pub GaveAs : TurnStage → List Act → Type 0
 GaveAs stage.MustWake acts = (kind : Kind)
     → (next_of_job kind acts ≡ WakeHolder) × (next_but_wake kind acts ≡ Over)
 GaveAs stage.GaveUp acts = (kind : Kind) → next_of_job kind acts ≡ Over
@@ -105,7 +105,7 @@ pub record Rowed (w : Parts) (past : List Moment) : Type 0 where
   pub of_owner : (h : ℕ) (owner : Owner) (number : JobNumber) → slice_get w.owners h ≡ Some owner
       → number_of owner ≡ Some number
       → HasRow w number (λ c. party_of c ≡ ByOwner h)
-  pub in_hand : (v : ℕ) (held : Held) → hand_at w.crew.hands v ≡ Holds held
+  pub in_hand : (v : ℕ) (held : JobInHand) → hand_at w.crew.hands v ≡ Holds held
       → GaveAs held.stage (acts_of held.turn.serial (events past))
 
 -- ---- who let a job go

@@ -6,8 +6,8 @@ use crate::row::{Core, Row};
 use blocking_core::pool::{Starter, WakeNote};
 use blocking_world_holders::{Owner, OwnerNext, Task};
 use blocking_world_laws::event::{Act, Event, Party, WaitEnd};
-use blocking_world_laws::step::{Answer, HandleCall, Step, TaskCall};
-use blocking_world_pool::{Crew, NoStarts, Stage, Ticket};
+use blocking_world_laws::step::{HandleAnswer, HandleCall, Step, TaskCall};
+use blocking_world_pool::{Crew, NoStarts, Ticket, TurnStage};
 use std::alloc::{AllocError, Global};
 use std::marker::Model;
 use std::sync::ledger::Ledger;
@@ -27,7 +27,7 @@ pub struct Parts {
 #[derive(Clone, Copy)]
 struct JobAt {
     row: usize,
-    stage: Stage,
+    stage: TurnStage,
 }
 
 impl Model for Parts {
@@ -404,7 +404,7 @@ impl Parts {
     }
 
     // What the job of a worker asked for is answered. The event bears a copy of the answer, whose memory is taken first.
-    fn io(&mut self, worker: usize, answer: Answer) -> Result<Event, AllocError>
+    fn io(&mut self, worker: usize, answer: HandleAnswer) -> Result<Event, AllocError>
         ensures ok { IfOk result (λ e. Moves NeverAsked (step.Io worker answer) self.old e self.new) }
         ensures err { OnErr result (self.new ≡ self.old) }
     {
@@ -432,7 +432,7 @@ impl Parts {
         if !row.is_ending(job.stage) {
             return self.crew.nothing(party);
         }
-        if let Stage::Waits = job.stage {
+        if let TurnStage::Waits = job.stage {
             let is_marked = self.has_let_go(&row.core);
             return self.crew.park(worker, Ticket { is_marked });
         }
@@ -543,7 +543,7 @@ impl Parts {
                 Some(job) => self.front_for(&self.rows[job.row].core),
                 None => 0,
             },
-            Step::Io(_, Answer::Gave(bytes)) => bytes.as_slice().len(),
+            Step::Io(_, HandleAnswer::Gave(bytes)) => bytes.as_slice().len(),
             _ => 0,
         }
     }

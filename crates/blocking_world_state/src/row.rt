@@ -7,8 +7,8 @@ use blocking_core::pool::JobNo;
 use blocking_world_holders::{CallProgress, Owner, SessionJob, Task};
 use blocking_world_laws::Act;
 use blocking_world_laws::event::HolderWaker;
-use blocking_world_laws::step::Answer;
-use blocking_world_pool::Stage;
+use blocking_world_laws::step::HandleAnswer;
+use blocking_world_pool::TurnStage;
 use std::alloc::{AllocError, Global};
 
 /// Whom a job is for, and how far it is.
@@ -54,13 +54,13 @@ impl Row {
     }
 
     /// Whether the next action of a worker with this job, which is so far in its turn, is the job's own to take.
-    pub(crate) fn is_acting(&self, stage: Stage) -> bool
+    pub(crate) fn is_acting(&self, stage: TurnStage) -> bool
         ensures { result ≡ is_job_action (next_of stage self.now.core) }
     {
         match stage {
-            Stage::MustGiveUp | Stage::MustWake => true,
-            Stage::GaveUp | Stage::Waits => false,
-            Stage::Runs => match &self.core {
+            TurnStage::MustGiveUp | TurnStage::MustWake => true,
+            TurnStage::GaveUp | TurnStage::Waits => false,
+            TurnStage::Runs => match &self.core {
                 Core::Call(_, call) => matches!(call.next(), Action::Finish | Action::Deliver),
                 Core::Session(_, job) => !job.is_asking() && !job.is_over(),
             },
@@ -68,28 +68,28 @@ impl Row {
     }
 
     /// Whether that is a question of the job, and this an answer to it.
-    pub(crate) fn may_be_answered(&self, stage: Stage, answer: &Answer) -> bool
+    pub(crate) fn may_be_answered(&self, stage: TurnStage, answer: &HandleAnswer) -> bool
         ensures { result ≡ is_answered_action (next_of stage self.now.core) answer.now }
     {
-        let Stage::Runs = stage else {
+        let TurnStage::Runs = stage else {
             return false;
         };
         match &self.core {
             Core::Call(_, call) => {
-                matches!(call.next(), Action::Call) && matches!(answer, Answer::Number(_))
+                matches!(call.next(), Action::Call) && matches!(answer, HandleAnswer::Number(_))
             }
             Core::Session(_, job) => job.may_be_answered(answer),
         }
     }
 
     /// Whether nothing is left to do but to end the turn.
-    pub(crate) fn is_ending(&self, stage: Stage) -> bool
+    pub(crate) fn is_ending(&self, stage: TurnStage) -> bool
         ensures { result ≡ is_turn_end (next_of stage self.now.core) }
     {
         match stage {
-            Stage::MustGiveUp | Stage::MustWake => false,
-            Stage::GaveUp | Stage::Waits => true,
-            Stage::Runs => match &self.core {
+            TurnStage::MustGiveUp | TurnStage::MustWake => false,
+            TurnStage::GaveUp | TurnStage::Waits => true,
+            TurnStage::Runs => match &self.core {
                 Core::Call(_, call) => matches!(call.next(), Action::Done),
                 Core::Session(_, job) => job.is_over(),
             },
@@ -117,7 +117,7 @@ impl Core {
         alloc: Global,
         tasks: &mut [Task],
         owners: &mut [Owner],
-        stage: Stage,
+        stage: TurnStage,
     ) -> Result<Option<Act>, AllocError>
         ensures ok { IfOk result
             (λ seen. IsDone (done stage self.old tasks.old owners.old) self.old tasks.old owners.old seen self.new tasks.new owners.new) }
@@ -140,12 +140,12 @@ impl Core {
     }
 
     /// What the job asked for was answered so.
-    pub(crate) fn answer(&mut self, answer: Answer)
+    pub(crate) fn answer(&mut self, answer: HandleAnswer)
         ensures { self.new ≡ core_after_answer answer self.old }
     {
         match self {
             Core::Call(_, call) => {
-                if let Answer::Number(number) = answer {
+                if let HandleAnswer::Number(number) = answer {
                     call.answer(number);
                 }
             }
@@ -155,14 +155,14 @@ impl Core {
 }
 
 // The job of a call takes its next action at its task.
-fn act_for_task(call: &mut CallProgress, task: &mut Task, stage: Stage) -> Option<Act>
+fn act_for_task(call: &mut CallProgress, task: &mut Task, stage: TurnStage) -> Option<Act>
     ensures { IsActed (call_step stage call.old) stage call.old task.old result call.new task.new }
 {
     match stage {
-        Stage::Waits | Stage::GaveUp => None,
-        Stage::MustGiveUp => Some(Act::GaveUp(HolderWaker::in_seat(task.give_up()))),
-        Stage::MustWake => Some(Act::HolderWoken),
-        Stage::Runs => match call.next() {
+        TurnStage::Waits | TurnStage::GaveUp => None,
+        TurnStage::MustGiveUp => Some(Act::GaveUp(HolderWaker::in_seat(task.give_up()))),
+        TurnStage::MustWake => Some(Act::HolderWoken),
+        TurnStage::Runs => match call.next() {
             Action::Call | Action::Done => None,
             Action::Finish => {
                 let wake = task.finish(call.number());
@@ -182,15 +182,15 @@ fn act_for_owner(
     alloc: Global,
     job: &mut SessionJob,
     owner: &mut Owner,
-    stage: Stage,
+    stage: TurnStage,
 ) -> Result<Option<Act>, AllocError>
     ensures ok { IfOk result (λ seen. IsActedFor (session_step stage job.old) job.old owner.old seen job.new owner.new) }
     ensures err { OnErr result ((job.new ≡ job.old) × (owner.new ≡ owner.old)) }
 {
     match stage {
-        Stage::Waits | Stage::GaveUp => Ok(None),
-        Stage::MustGiveUp => Ok(Some(owner.give_up())),
-        Stage::MustWake => Ok(Some(Act::HolderWoken)),
-        Stage::Runs => owner.work(alloc, job),
+        TurnStage::Waits | TurnStage::GaveUp => Ok(None),
+        TurnStage::MustGiveUp => Ok(Some(owner.give_up())),
+        TurnStage::MustWake => Ok(Some(Act::HolderWoken)),
+        TurnStage::Runs => owner.work(alloc, job),
     }
 }

@@ -4,7 +4,7 @@ use blocking_core::io::{Fault, Position};
 use blocking_world::{World, run};
 use blocking_world_laws::bytes::Bytes;
 use blocking_world_laws::event::{Act, Event, Reply};
-use blocking_world_laws::step::{Answer, HandleCall, Step};
+use blocking_world_laws::step::{HandleAnswer, HandleCall, Step};
 use std::alloc::{AllocError, Global};
 use std::test::Fail;
 
@@ -158,14 +158,16 @@ impl Seen {
         }
     }
 
-    fn see_answer(&mut self, session: Call, answer: &Answer) {
+    fn see_answer(&mut self, session: Call, answer: &HandleAnswer) {
         self.answers = self.answers.saturating_add(1);
         match answer {
-            Answer::Failed(error) => self.see_fault(Fault::Io(*error)),
-            Answer::Number(0) if session == Write => self.see_fault(Fault::WriteZero),
-            Answer::Gave(bytes) if bytes.as_slice().is_empty() => self.is_at_end = true,
-            Answer::NoItem => self.is_at_end = true,
-            Answer::Gave(_) | Answer::Item(_) => self.came = self.came.saturating_add(1),
+            HandleAnswer::Failed(error) => self.see_fault(Fault::Io(*error)),
+            HandleAnswer::Number(0) if session == Write => self.see_fault(Fault::WriteZero),
+            HandleAnswer::Gave(bytes) if bytes.as_slice().is_empty() => self.is_at_end = true,
+            HandleAnswer::NoItem => self.is_at_end = true,
+            HandleAnswer::Gave(_) | HandleAnswer::Item(_) => self.came = self
+                .came
+                .saturating_add(1),
             _ => {}
         }
     }
@@ -265,17 +267,17 @@ impl Trouble {
     }
 
     // The answer of this number, in each form: only that has an action for which the job asked.
-    fn answer(self, alloc: Global, number: u64, form: usize) -> Result<Answer, AllocError> {
+    fn answer(self, alloc: Global, number: u64, form: usize) -> Result<HandleAnswer, AllocError> {
         if self.fails_at(number) {
-            return Ok(Answer::Failed(number));
+            return Ok(HandleAnswer::Failed(number));
         }
         let is_end = self.ends_at(number);
         Ok(match form {
-            0 => Answer::Gave(bytes(alloc, if is_end { 0 } else { 1 })?),
-            1 => Answer::Number(if is_end { 0 } else { 1 }),
-            2 if is_end => Answer::NoItem,
-            2 => Answer::Item(1),
-            _ => Answer::Fine,
+            0 => HandleAnswer::Gave(bytes(alloc, if is_end { 0 } else { 1 })?),
+            1 => HandleAnswer::Number(if is_end { 0 } else { 1 }),
+            2 if is_end => HandleAnswer::NoItem,
+            2 => HandleAnswer::Item(1),
+            _ => HandleAnswer::Fine,
         })
     }
 }
@@ -331,7 +333,7 @@ impl Play<'_> {
     }
 
     // What the handle answers, in one of four forms: as it does in trouble until it is back.
-    fn answer(&self, form: usize) -> Result<Answer, AllocError> {
+    fn answer(&self, form: usize) -> Result<HandleAnswer, AllocError> {
         let trouble = if self.seen.is_back {
             Nothing
         } else {

@@ -2,7 +2,7 @@
 use crate::row::{Place, agree};
 use blocking_world::{World, run};
 use blocking_world_laws::bytes::Bytes;
-use blocking_world_laws::step::{Answer, HandleCall, Step};
+use blocking_world_laws::step::{HandleAnswer, HandleCall, Step};
 use std::alloc::{AllocError, Global};
 use std::test::Fail;
 
@@ -19,11 +19,11 @@ fn long_write(alloc: Global) -> Result<Vec<(Step, &'static str)>, AllocError> {
         (Step::Arrive, "arrived 1"),
         (Step::Take(1), "took 1"),
         (Step::Job(1), "peeked 65536"),
-        (Step::Io(1, Answer::Number(65_537)), "nothing"),
-        (Step::Io(1, Answer::Number(65_536)), "answered 65536"),
+        (Step::Io(1, HandleAnswer::Number(65_537)), "nothing"),
+        (Step::Io(1, HandleAnswer::Number(65_536)), "answered 65536"),
         (Step::Job(1), "taken 65536"),
         (Step::Job(1), "peeked 4464"),
-        (Step::Io(1, Answer::Number(4_464)), "answered 4464"),
+        (Step::Io(1, HandleAnswer::Number(4_464)), "answered 4464"),
         (Step::Job(1), "taken 4464"),
         (Step::Job(1), "parked"),
     ]?)

@@ -11,7 +11,7 @@ use blocking_world::{World, cut, run};
 use blocking_world_laws::bytes::Bytes;
 use blocking_world_laws::event::{Act, Event, Party};
 use blocking_world_laws::step::TaskCall::Poll;
-use blocking_world_laws::step::{Answer, Step};
+use blocking_world_laws::step::{HandleAnswer, Step};
 use std::alloc::{AllocError, Global};
 use std::fmt::Write;
 use std::test::Fail;
@@ -388,7 +388,7 @@ fn bytes(alloc: Global, items: &[u8]) -> Result<Bytes, AllocError> {
 
 // What the reader of this owner gave, which this worker asked.
 fn gave(alloc: Global, worker: usize, owner: usize, items: &[u8]) -> Result<Event, AllocError> {
-    let answer = Answer::Gave(bytes(alloc, items)?);
+    let answer = HandleAnswer::Gave(bytes(alloc, items)?);
     Ok(event(Party::Worker(worker), Some(owner), Act::Answered(answer)))
 }
 

@@ -3,7 +3,7 @@ use blocking_core::io::Position;
 use blocking_world::{World, run};
 use blocking_world_laws::bytes::Bytes;
 use blocking_world_laws::event::Event;
-use blocking_world_laws::step::{Answer, HandleCall, Step, TaskCall};
+use blocking_world_laws::step::{HandleAnswer, HandleCall, Step, TaskCall};
 use std::alloc::{AllocError, Global};
 use std::test::Fail;
 
@@ -64,11 +64,11 @@ impl PlainStep {
             PlainStep::Arrive => Step::Arrive,
             PlainStep::Take(worker) => Step::Take(worker),
             PlainStep::Job(worker) => Step::Job(worker),
-            PlainStep::Io(worker, number) => Step::Io(worker, Answer::Number(number)),
-            PlainStep::Gives(worker, _) => Step::Io(worker, Answer::Gave(bytes)),
-            PlainStep::Flushed(worker) => Step::Io(worker, Answer::Fine),
-            PlainStep::GivesItem(worker, item) => Step::Io(worker, Answer::Item(item)),
-            PlainStep::HasNoItem(worker) => Step::Io(worker, Answer::NoItem),
+            PlainStep::Io(worker, number) => Step::Io(worker, HandleAnswer::Number(number)),
+            PlainStep::Gives(worker, _) => Step::Io(worker, HandleAnswer::Gave(bytes)),
+            PlainStep::Flushed(worker) => Step::Io(worker, HandleAnswer::Fine),
+            PlainStep::GivesItem(worker, item) => Step::Io(worker, HandleAnswer::Item(item)),
+            PlainStep::HasNoItem(worker) => Step::Io(worker, HandleAnswer::NoItem),
             PlainStep::End(worker) => Step::End(worker),
             PlainStep::Late(worker) => Step::Late(worker),
             PlainStep::Strike(serial) => Step::Strike(serial),

@@ -4,7 +4,7 @@ use blocking_core::io::{Fault, Position};
 use blocking_core::pool::{Refusal, Standing, Woke};
 use blocking_world_laws::bytes::Bytes;
 use blocking_world_laws::event::{Act, CopySide, Event, HolderWaker, Party, Reply, WaitEnd};
-use blocking_world_laws::step::{Answer, HandleCall};
+use blocking_world_laws::step::{HandleAnswer, HandleCall};
 use std::alloc::{AllocError, Global};
 use std::test::Fail;
 
@@ -127,7 +127,7 @@ fn texts_of_writing(rt: HostRuntime) -> Result<(), Fail> {
         (Act::Replied(Reply::Okay), "replied ok"),
         (Act::Peeked(piece), "peeked 2"),
         (Act::Drained, "drained"),
-        (Act::Answered(Answer::Fine), "answered ok"),
+        (Act::Answered(HandleAnswer::Fine), "answered ok"),
         (Act::Taken(1, HolderWaker::Absent), "taken 1"),
         (Act::Taken(1, HolderWaker::Taken), "taken 1 wake owner"),
     ];
@@ -165,8 +165,8 @@ fn texts_of_items_seeks_and_operations(rt: HostRuntime) -> Result<(), Fail> {
             Act::Replied(Reply::NotBegun(Refusal::Numbers)),
             "replied refused numbers",
         ),
-        (Act::Answered(Answer::Item(4)), "answered item 4"),
-        (Act::Answered(Answer::NoItem), "answered none"),
+        (Act::Answered(HandleAnswer::Item(4)), "answered item 4"),
+        (Act::Answered(HandleAnswer::NoItem), "answered none"),
         (Act::ResultPut(HolderWaker::Absent), "result"),
         (Act::ResultPut(HolderWaker::Taken), "result wake owner"),
     ];
@@ -205,12 +205,12 @@ fn texts_of_jobs(rt: HostRuntime) -> Result<(), Fail> {
     let none = bytes(rt.alloc(), &[])?;
     let rows = [
         (
-            Act::Answered(Answer::Number(u64::MAX)),
+            Act::Answered(HandleAnswer::Number(u64::MAX)),
             "answered 18446744073709551615",
         ),
-        (Act::Answered(Answer::Gave(letters)), "answered 617e"),
-        (Act::Answered(Answer::Gave(none)), "answered -"),
-        (Act::Answered(Answer::Failed(8)), "answered fault 8"),
+        (Act::Answered(HandleAnswer::Gave(letters)), "answered 617e"),
+        (Act::Answered(HandleAnswer::Gave(none)), "answered -"),
+        (Act::Answered(HandleAnswer::Failed(8)), "answered fault 8"),
         (Act::RoomFree(4), "room 4"),
         (Act::RoomShut, "shut"),
         (Act::JobParked, "parked"),

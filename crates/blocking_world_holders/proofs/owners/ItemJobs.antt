@@ -2,7 +2,7 @@
 use Rattle.std.proofs.Common.{arith, ◌≡◌, ℕ, List, ◌∷◌, Bool, true, false, refl, sym, ap, ◌∙◌, None}
 use Rattle.std.proofs.Common.{subst}
 use Rattle.blocking_world_holders.proofs.Types.{ItemAction, ItemAnswer, Act, Answered, HolderWoken}
-use Rattle.blocking_world_holders.proofs.Types.{Answer, Item, NoItem}
+use Rattle.blocking_world_holders.proofs.Types.{HandleAnswer, Item, NoItem}
 use Rattle.blocking_world_holders.proofs.Words.{item_after, item_by, core_item_in as item_in}
 use Rattle.blocking_world_holders.proofs.Words.{item_next, Machine, machine, Streaming, fault}
 use Rattle.blocking_world_holders.proofs.Words.{is_answer, next_but_wake, takes_waker, ItemAs}
@@ -48,12 +48,12 @@ wakes p acts r is =
 -- ---- its handle answers
 
 -- what is asked for an item asks for one
-fetches : (item : ℕ) (action : ItemAction) (answer : Answer)
+fetches : (item : ℕ) (action : ItemAction) (answer : HandleAnswer)
     → is_answer (action_as item action) answer ≡ true → action ≡ ItemAction.Next
 fetches item action answer is = grind arith
 
 -- a job that asks its handle wants an item
-pub asks : (p : Progress) (acts : List Act) (answer : Answer) → ItemAs p acts
+pub asks : (p : Progress) (acts : List Act) (answer : HandleAnswer) → ItemAs p acts
     → is_answer (action_of p) answer ≡ true
     → Asks (action_as p.item) Streaming acts p.core answer ItemAction.Next
 asks p acts answer r is =
@@ -61,7 +61,7 @@ asks p acts answer r is =
     answer (fetches p.item (item_next p.core) answer is) is
 
 -- The handle answered so, and the job goes on by its table.
-pub answers : (p : Progress) (acts : List Act) (answer : Answer) → ItemAs p acts
+pub answers : (p : Progress) (acts : List Act) (answer : HandleAnswer) → ItemAs p acts
     → is_answer (action_of p) answer ≡ true
     → ItemAs (progress_after_answer p answer) (Answered answer ∷ acts)
 answers p acts (Item x) r is =

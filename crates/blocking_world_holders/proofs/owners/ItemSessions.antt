@@ -6,7 +6,7 @@ use Rattle.std.proofs.lemmas.Bool.{or_left, or_right}
 use Rattle.std.proofs.lemmas.Bool.Decides.{nat_tests}
 use Rattle.std.proofs.Math.Seq.{take-length}
 use Rattle.blocking_world_holders.proofs.Types.{Act, Answered, JobParked, Lost, Put, HolderWaker}
-use Rattle.blocking_world_holders.proofs.Types.{Answer, Item, NoItem}
+use Rattle.blocking_world_holders.proofs.Types.{HandleAnswer, Item, NoItem}
 use Rattle.blocking_world_holders.proofs.Words.{room, Closed, Served, Waiting, hand_in}
 use Rattle.blocking_world_holders.proofs.Words.{handle_answers, has_failure, AskItem, CloseEnd}
 use Rattle.blocking_world_holders.proofs.Words.{SendItem, Streaming, fault, has_finished}
@@ -130,7 +130,7 @@ module _ (s : Session) (capacity : ℕ) (last : Option SeenSession) (shut back d
 module _ (s : Session) (capacity : ℕ) (last : Option SeenSession) (shut back dropped : Bool)
     (took accepted : List ℕ) (acts : List Act) (js ps ss : Bool) where
   -- the handle answers what it was asked for
-  pub item_answers : (answer : Answer) → is_answer AskItem answer ≡ true
+  pub item_answers : (answer : HandleAnswer) → is_answer AskItem answer ≡ true
       → next_but_wake Streaming acts ≡ AskItem
       → SessionAs s Streaming capacity last shut back dropped took accepted acts js ps ss
       → SessionAs s Streaming capacity last shut back dropped took accepted (Answered answer ∷ acts)

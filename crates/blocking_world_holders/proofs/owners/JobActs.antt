@@ -8,7 +8,8 @@ use Rattle.blocking_world_holders.proofs.Types.{Fault, HolderWaker, ItemAction, 
 use Rattle.blocking_world_holders.proofs.Types.{ReadAction, SeekAction, WriteAction, Act, Answered}
 use Rattle.blocking_world_holders.proofs.Types.{Drained, Finished, GaveUp, JobClosed, JobParked}
 use Rattle.blocking_world_holders.proofs.Types.{Lost, Peeked, Put, ResultPut, RoomFree, RoomShut}
-use Rattle.blocking_world_holders.proofs.Types.{TakenOut, Event, Answer, HandleCall, OwnerStage}
+use Rattle.blocking_world_holders.proofs.Types.{TakenOut, Event, HandleAnswer}
+use Rattle.blocking_world_holders.proofs.Types.{HandleCall, OwnerStage}
 use Rattle.blocking_world_holders.proofs.Types.{Asked, Back, Replied}
 use Rattle.blocking_world_holders.proofs.Words.{item_next, operation_next, Pipe, room, Closed, Met}
 use Rattle.blocking_world_holders.proofs.Words.{Served, Waiting, find_room, hand_in, peek}
@@ -96,7 +97,7 @@ taken_third true b c woke after same e = inr refl
 taken_third false true c woke after same e = inr refl
 taken_third false false c woke after same e = inl (ap (λ d. is_taken (waker_in d)) (same ∙ e))
 
-answers_it : (cut : List Event) (action : JobAction) (answer : Answer)
+answers_it : (cut : List Event) (action : JobAction) (answer : HandleAnswer)
     → is_answer action answer ≡ true → Works cut action (Answered answer)
 answers_it cut AskCall answer is = is
 answers_it cut (AskBytes n) answer is = is
@@ -440,7 +441,7 @@ module _ (bytes client : ℕ) (asked : Option HandleCall) (here : OwnerStage)
         })
 
     -- its handle answers
-    answers_goes : (answer : Answer) (next : JobAction)
+    answers_goes : (answer : HandleAnswer) (next : JobAction)
         → is_answer next answer ≡ true → next_of_job of acts ≡ next
         → At s of (bound bytes of) began shut over gone took written acts js ps ss next
         → PlaceBy s.result of (Answered answer ∷ acts) came rs
@@ -568,7 +569,7 @@ module _ (bytes client : ℕ) (asked : Option HandleCall) (here : OwnerStage)
         ps ss waker p.fault r.fault_is tt now)
 
     -- its reader answers
-    pub answer_goes : (answer : Answer) → is_answer (action_of p) answer ≡ true
+    pub answer_goes : (answer : HandleAnswer) → is_answer (action_of p) answer ≡ true
         → Goes (owner_by_parts bytes client asked here (Some s)) cut (event (Answered answer))
     answer_goes answer is =
         let q = of_reader.asks p acts answer r is in
@@ -655,7 +656,7 @@ module _ (bytes client : ℕ) (asked : Option HandleCall) (here : OwnerStage)
         ps ss waker (write_fault_of p.core) r.fault_is tt now)
 
     -- its writer answers
-    pub writer_answer_goes : (answer : Answer) → is_answer (write_action_of p) answer ≡ true
+    pub writer_answer_goes : (answer : HandleAnswer) → is_answer (write_action_of p) answer ≡ true
         → Goes (owner_by_parts bytes client asked here (Some s)) cut (event (Answered answer))
     writer_answer_goes answer is =
         let d = (of_writer.asks p acts answer r is).does in
@@ -732,7 +733,7 @@ module _ (bytes client : ℕ) (asked : Option HandleCall) (here : OwnerStage)
         acts js ps ss waker None (sym r.fault_is) tt now)
 
     -- its handle answers
-    pub item_answer_goes : (answer : Answer) → is_answer (item_action_of p) answer ≡ true
+    pub item_answer_goes : (answer : HandleAnswer) → is_answer (item_action_of p) answer ≡ true
         → Goes (owner_by_parts bytes client asked here (Some s)) cut (event (Answered answer))
     item_answer_goes answer is =
         let q = of_streamer.asks p acts answer r is in
@@ -761,7 +762,7 @@ module _ (bytes client : ℕ) (asked : Option HandleCall) (here : OwnerStage)
         written acts js ps ss waker p.fault p.place r.fault_is r.place_is now)
 
     -- its handle answers
-    pub seek_answer_goes : (answer : Answer) → is_answer (seek_action_of p) answer ≡ true
+    pub seek_answer_goes : (answer : HandleAnswer) → is_answer (seek_action_of p) answer ≡ true
         → Goes (owner_by_parts bytes client asked here (Some s)) cut (event (Answered answer))
     seek_answer_goes answer is =
         let q = of_seeker.asks p acts answer r is in
@@ -827,7 +828,8 @@ module _ (bytes client : ℕ) (asked : Option HandleCall) (here : OwnerStage)
         acts js ps ss waker None (sym r.fault_is) tt now)
 
     -- its operation answers
-    pub operation_answer_goes : (answer : Answer) → is_answer (operation_action_of p) answer ≡ true
+    pub operation_answer_goes : (answer : HandleAnswer)
+        → is_answer (operation_action_of p) answer ≡ true
         → Goes (owner_by_parts bytes client asked here (Some s)) cut (event (Answered answer))
     operation_answer_goes answer is =
         let q = of_operator.asks p acts answer r is in

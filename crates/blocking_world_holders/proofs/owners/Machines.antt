@@ -2,7 +2,7 @@
 -- whether it has to call a waker before that; the laws have a word for each thing that it does.
 use Rattle.std.proofs.Common.{arith, ◌≡◌, ℕ, List, ◌∷◌, Bool, true, false, refl, sym, ap, ◌∙◌}
 use Rattle.std.proofs.Common.{Option, None}
-use Rattle.blocking_world_holders.proofs.Types.{Fault, Act, Answered, Answer}
+use Rattle.blocking_world_holders.proofs.Types.{Fault, Act, Answered, HandleAnswer}
 use Rattle.blocking_world_holders.proofs.Words.{Machine, machine, wake_first, JobAction, Kind}
 use Rattle.blocking_world_holders.proofs.Words.{WakeHolder, job_earlier, fault, fault_in, is_answer}
 use Rattle.blocking_world_holders.proofs.Words.{job_next_after_answer as next_after_answer}
@@ -19,7 +19,7 @@ pub record Does {A : Type 0} (word : A → JobAction) (kind : Kind) (acts : List
 
 -- And so it is where the job is to be answered.
 pub record Asks {A : Type 0} (word : A → JobAction) (kind : Kind) (acts : List Act)
-    (core : Machine A) (answer : Answer) (now : A) : Type 0 where
+    (core : Machine A) (answer : HandleAnswer) (now : A) : Type 0 where
   pub does : Does word kind acts core now
   pub fits : is_answer (word now) answer ≡ true
 
@@ -61,7 +61,7 @@ module _ {A : Type 0} (word : A → JobAction) (deliver : A) (calls : word deliv
       by false held is = ap (λ a. machine a false) is
 
   -- and so did whoever is to be answered
-  pub asks : {now : A} (answer : Answer) → wake_first core.is_waking deliver core.next ≡ now
+  pub asks : {now : A} (answer : HandleAnswer) → wake_first core.is_waking deliver core.next ≡ now
       → is_answer (word (wake_first core.is_waking deliver core.next)) answer ≡ true
       → Asks word kind acts core answer now
   asks {now} answer is asked =
@@ -72,12 +72,12 @@ module _ {A : Type 0} (word : A → JobAction) (deliver : A) (calls : word deliv
       record { does = does is (λ e. let none = asks_word e in cc); fits = fits }
 
 -- what is answered asks, and isn't over
-pub asking_goes : (action : JobAction) (answer : Answer) → is_answer action answer ≡ true
+pub asking_goes : (action : JobAction) (answer : HandleAnswer) → is_answer action answer ≡ true
     → is_over action ≡ false
 asking_goes action answer is = grind arith
 
 pub goes_on : {A : Type 0} {word : A → JobAction} {kind : Kind} {acts : List Act} {core : Machine A}
-    {answer : Answer} {now : A} → Asks word kind acts core answer now
+    {answer : HandleAnswer} {now : A} → Asks word kind acts core answer now
     → is_over (next_but_wake kind acts) ≡ false
 goes_on {word = word} {answer = answer} {now = now} q =
     ap is_over q.does.table ∙ asking_goes (word now) answer q.fits
@@ -96,7 +96,7 @@ pub no_fault : (held : Option (Fault ℕ)) → held ≡ job_earlier held None
 no_fault held = grind arith
 
 module _ {A : Type 0} {word : A → JobAction} {kind : Kind} {acts : List Act} {core : Machine A}
-    {now : A} (d : Does word kind acts core now) (answer : Answer) where
+    {now : A} (d : Does word kind acts core now) (answer : HandleAnswer) where
   -- what is next after an answer, and the job's fault, by the table
   pub next_on : next_after_answer (word now) answer ≡ next_but_wake kind (Answered answer ∷ acts)
   next_on = ap (λ action. next_after_answer action answer) (sym d.table)

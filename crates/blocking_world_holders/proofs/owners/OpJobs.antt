@@ -2,7 +2,7 @@
 use Rattle.std.proofs.Common.{arith, ◌≡◌, ℕ, List, ◌∷◌, Bool, true, false, refl, sym, ap, ◌∙◌, None}
 use Rattle.std.proofs.Common.{subst}
 use Rattle.blocking_world_holders.proofs.Types.{OpAction, OpAnswer, Act, Answered, HolderWoken}
-use Rattle.blocking_world_holders.proofs.Types.{Answer, Number}
+use Rattle.blocking_world_holders.proofs.Types.{HandleAnswer, Number}
 use Rattle.blocking_world_holders.proofs.Words.{Machine, machine, operation_after, operation_by}
 use Rattle.blocking_world_holders.proofs.Words.{operation_in, operation_next, Operating, fault}
 use Rattle.blocking_world_holders.proofs.Words.{is_answer, next_but_wake, number, takes_waker}
@@ -48,12 +48,12 @@ wakes p acts r is =
 -- ---- its operation answers
 
 -- who is answered runs its operation
-runs : (action : OpAction) (answer : Answer) → is_answer (action_as action) answer ≡ true
+runs : (action : OpAction) (answer : HandleAnswer) → is_answer (action_as action) answer ≡ true
     → action ≡ OpAction.Call
 runs action answer is = grind arith
 
 -- a job that is to be answered runs its operation
-pub asks : (p : Progress) (acts : List Act) (answer : Answer) → OperationAs p acts
+pub asks : (p : Progress) (acts : List Act) (answer : HandleAnswer) → OperationAs p acts
     → is_answer (action_of p) answer ≡ true
     → Asks action_as Operating acts p.core answer OpAction.Call
 asks p acts answer r is =
@@ -61,7 +61,7 @@ asks p acts answer r is =
     answer (runs (operation_next p.core) answer is) is
 
 -- The operation answered so, and the job goes on by its table.
-pub answers : (p : Progress) (acts : List Act) (answer : Answer) → OperationAs p acts
+pub answers : (p : Progress) (acts : List Act) (answer : HandleAnswer) → OperationAs p acts
     → is_answer (action_of p) answer ≡ true
     → OperationAs (progress_after_answer p answer) (Answered answer ∷ acts)
 answers p acts (Number n) r is =

@@ -1,7 +1,7 @@
 -- The session of an owner that operates, after each act of its job, and once its owner looked for
 -- the result.
 use Rattle.std.proofs.Common.{◌≡◌, ℕ, List, ◌∷◌, Bool, true, refl, ap, Option}
-use Rattle.blocking_world_holders.proofs.Types.{Act, Answered, ResultPut, HolderWaker, Answer}
+use Rattle.blocking_world_holders.proofs.Types.{Act, Answered, ResultPut, HolderWaker, HandleAnswer}
 use Rattle.blocking_world_holders.proofs.Types.{Number}
 use Rattle.blocking_world_holders.proofs.Words.{Slot, AskResult, Operating, PutResult, fault}
 use Rattle.blocking_world_holders.proofs.Words.{has_finished, has_given_up, is_answer}
@@ -27,7 +27,7 @@ module _ (s : Session) (capacity : ℕ) (last : Option SeenSession) (shut back d
   }
 
   -- its operation gives a number
-  pub operation_answers : (answer : Answer) → is_answer AskResult answer ≡ true
+  pub operation_answers : (answer : HandleAnswer) → is_answer AskResult answer ≡ true
       → next_but_wake Operating acts ≡ AskResult
       → At s Operating capacity last shut back dropped took accepted acts js ps ss AskResult
       → Tied s (Answered answer ∷ acts)

@@ -2,7 +2,7 @@
 use Rattle.std.proofs.Common.{◌≡◌, ℕ, List, [], ◌∷◌, length, Bool, true, false, refl, sym, ap, ◌∙◌}
 use Rattle.std.proofs.Common.{Option, if◌then◌else◌, nat_le, subst}
 use Rattle.blocking_world_holders.proofs.Types.{Fault, ReadAction, ReadAnswer, Act, Answered}
-use Rattle.blocking_world_holders.proofs.Types.{HolderWoken, Answer, Failed, Gave}
+use Rattle.blocking_world_holders.proofs.Types.{HolderWoken, HandleAnswer, Failed, Gave}
 use Rattle.blocking_world_holders.proofs.Words.{Machine, machine, read_after, read_by, read_next}
 use Rattle.blocking_world_holders.proofs.Words.{core_read_in as read_in, AskBytes, Reading, fault}
 use Rattle.blocking_world_holders.proofs.Words.{is_answer, next_but_wake}
@@ -63,14 +63,14 @@ gift_next most (b ∷ bs) fits = (
 )
 
 -- what is asked for bytes is a read
-reads : (piece : List ℕ) (action : ReadAction) (answer : Answer)
+reads : (piece : List ℕ) (action : ReadAction) (answer : HandleAnswer)
     → is_answer (action_as piece action) answer ≡ true
     → (most : ℕ) × (action ≡ ReadAction.Read most)
 reads piece (ReadAction.Read most) answer is = (most, refl)
 reads piece _ answer is = absurd (cc)
 
 -- a job that asks its reader wants at most so many bytes
-pub asks : (p : Progress) (acts : List Act) (answer : Answer) → ReadAs p acts
+pub asks : (p : Progress) (acts : List Act) (answer : HandleAnswer) → ReadAs p acts
     → is_answer (action_of p) answer ≡ true
     → (most : ℕ) × Asks (action_as p.piece) Reading acts p.core answer (ReadAction.Read most)
 asks p acts answer r is =
@@ -81,7 +81,7 @@ asks p acts answer r is =
     )
 
 -- The reader answered so, and the job goes on by its table.
-pub answers : (p : Progress) (acts : List Act) (answer : Answer) → ReadAs p acts
+pub answers : (p : Progress) (acts : List Act) (answer : HandleAnswer) → ReadAs p acts
     → is_answer (action_of p) answer ≡ true
     → ReadAs (progress_after_answer p answer) (Answered answer ∷ acts)
 answers p acts (Gave bytes) r is =

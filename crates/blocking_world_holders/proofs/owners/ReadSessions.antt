@@ -8,7 +8,7 @@ use Rattle.std.proofs.lemmas.Bool.Decides.{nat_tests}
 use Rattle.std.proofs.Math.Seq.{take-length}
 use Rattle.blocking_world_holders.proofs.Types.{Fault, Act, Answered, Finished, GaveUp, HolderWoken}
 use Rattle.blocking_world_holders.proofs.Types.{JobClosed, JobParked, Lost, Put, RoomFree, RoomShut}
-use Rattle.blocking_world_holders.proofs.Types.{HolderWaker, Answer, Failed, Gave}
+use Rattle.blocking_world_holders.proofs.Types.{HolderWaker, HandleAnswer, Failed, Gave}
 use Rattle.blocking_world_holders.proofs.Words.{room, Closed, Served, Waiting, find_room, hand_in}
 use Rattle.blocking_world_holders.proofs.Words.{Abandoned, Content, Empty, Full, GivenUp, Slot}
 use Rattle.blocking_world_holders.proofs.Words.{slot_after, slot_without_job, handle_answers}
@@ -454,7 +454,7 @@ bounds given put taken items more capacity all inside within fits =
 module _ (s : Session) (capacity : ℕ) (last : Option SeenSession) (shut back dropped : Bool)
     (took accepted : List ℕ) (acts : List Act) (js ps ss : Bool) (most : ℕ) where
   -- what an answer leaves of a job that asks for bytes
-  left : (answer : Answer) (next : JobAction) → is_over next ≡ false
+  left : (answer : HandleAnswer) (next : JobAction) → is_over next ≡ false
       → is_finding next ≡ false → next_after_answer (AskBytes most) answer ≡ next
       → ((piece : List ℕ) → counted answer piece ≡ []) → next_but_wake Reading acts ≡ AskBytes most
       → PassedAs next (room s.pipe) s.pipe.is_job_open (shut || has_given_up acts)
@@ -494,7 +494,7 @@ module _ (s : Session) (capacity : ℕ) (last : Option SeenSession) (shut back d
       })
 
   -- the reader answers what it was asked for
-  pub answers : (answer : Answer) → is_answer (AskBytes most) answer ≡ true
+  pub answers : (answer : HandleAnswer) → is_answer (AskBytes most) answer ≡ true
       → next_but_wake Reading acts ≡ AskBytes most
       → SessionAs s Reading capacity last shut back dropped took accepted acts js ps ss → SessionAs
       s Reading capacity last shut back dropped took accepted (Answered answer ∷ acts) js ps ss

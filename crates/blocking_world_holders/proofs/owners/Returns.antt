@@ -4,7 +4,7 @@ use Rattle.std.proofs.Common.{arith, Option, Some, None, ◌||◌, not, is_none,
 use Rattle.std.proofs.lemmas.Bool.{or_from}
 use Rattle.blocking_world_holders.proofs.Types.{Fault, Position, OwnerAction, OwnerEnd, Open, Shut}
 use Rattle.blocking_world_holders.proofs.Types.{PollCall, Reply, SessionKind, State, Act, Answered}
-use Rattle.blocking_world_holders.proofs.Types.{Event, Told, Answer, HandleCall}
+use Rattle.blocking_world_holders.proofs.Types.{Event, Told, HandleAnswer, HandleCall}
 use Rattle.blocking_world_holders.proofs.Words.{OwnerMachine, same_position, IsFlushedBack}
 use Rattle.blocking_world_holders.proofs.Words.{IsReadBack, handle_answers, has_failure, is_failure}
 use Rattle.blocking_world_holders.proofs.Words.{JobAction, Kind, Reading, Seeking}
@@ -30,7 +30,7 @@ no_failure (Answered answer ∷ past) e =
     or_from (is_failure answer) (has_failure (handle_answers past))
     (sound (next_but_wake Reading past) answer both.1) (no_failure past both.0)
   where
-    sound : (action : JobAction) (answer : Answer) → fault_in action answer ≡ None
+    sound : (action : JobAction) (answer : HandleAnswer) → fault_in action answer ≡ None
         → is_failure answer ≡ false
     sound action answer e = grind arith
 no_failure (_ ∷ past) e = no_failure past e

@@ -2,7 +2,7 @@
 use Rattle.std.proofs.Common.{arith, ◌≡◌, ℕ, List, ◌∷◌, Bool, true, false, refl, sym, ap, ◌∙◌}
 use Rattle.std.proofs.Common.{Option, subst}
 use Rattle.blocking_world_holders.proofs.Types.{Fault, SeekAction, SeekAnswer, Act, Answered}
-use Rattle.blocking_world_holders.proofs.Types.{HolderWoken, Answer, Failed, Number}
+use Rattle.blocking_world_holders.proofs.Types.{HolderWoken, HandleAnswer, Failed, Number}
 use Rattle.blocking_world_holders.proofs.Words.{Machine, machine, seek_after, seek_by, seek_next}
 use Rattle.blocking_world_holders.proofs.Words.{core_seek_in as seek_in, Seeking, fault, is_answer}
 use Rattle.blocking_world_holders.proofs.Words.{next_but_wake, number, takes_waker, SeekAs}
@@ -54,12 +54,12 @@ wakes p acts r is =
 -- ---- its handle answers
 
 -- who is answered seeks
-seeks : (action : SeekAction) (answer : Answer) → is_answer (action_as action) answer ≡ true
+seeks : (action : SeekAction) (answer : HandleAnswer) → is_answer (action_as action) answer ≡ true
     → action ≡ SeekAction.Seek
 seeks action answer is = grind arith
 
 -- a job that asks its handle seeks
-pub asks : (p : Progress) (acts : List Act) (answer : Answer) → SeekAs p acts
+pub asks : (p : Progress) (acts : List Act) (answer : HandleAnswer) → SeekAs p acts
     → is_answer (action_of p) answer ≡ true
     → Asks action_as (Seeking p.goal) acts p.core answer SeekAction.Seek
 asks p acts answer r is =
@@ -67,7 +67,7 @@ asks p acts answer r is =
     answer (seeks (seek_next p.core) answer is) is
 
 -- The handle answered so, and the job goes on by its table.
-pub answers : (p : Progress) (acts : List Act) (answer : Answer) → SeekAs p acts
+pub answers : (p : Progress) (acts : List Act) (answer : HandleAnswer) → SeekAs p acts
     → is_answer (action_of p) answer ≡ true
     → SeekAs (progress_after_answer p answer) (Answered answer ∷ acts)
 answers p acts (Number place) r is =

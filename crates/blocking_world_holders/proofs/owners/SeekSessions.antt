@@ -2,7 +2,7 @@
 use Rattle.std.proofs.Common.{arith, ◌≡◌, ℕ, List, [], ◌∷◌, ◌++◌, Bool, true, false, refl, ap, ◌∙◌}
 use Rattle.std.proofs.Common.{Option, take}
 use Rattle.blocking_world_holders.proofs.Types.{Fault, Position, Act, Answered, Finished}
-use Rattle.blocking_world_holders.proofs.Types.{HolderWaker, Answer, Failed, Number}
+use Rattle.blocking_world_holders.proofs.Types.{HolderWaker, HandleAnswer, Failed, Number}
 use Rattle.blocking_world_holders.proofs.Words.{AskSeek, Finish, Seeking, fault, has_closed}
 use Rattle.blocking_world_holders.proofs.Words.{has_finished, has_given_up, is_answer}
 use Rattle.blocking_world_holders.proofs.Words.{job_next_after_answer as next_after_answer}
@@ -18,7 +18,7 @@ none_taken : (n : ℕ) → take {A = ℕ} n [] ≡ []
 none_taken n = grind arith
 
 -- an answer that carries nothing, of one that was offered nothing, leaves nothing passed
-pub plain_answer : (s : Session) (took accepted : List ℕ) (acts : List Act) (answer : Answer)
+pub plain_answer : (s : Session) (took accepted : List ℕ) (acts : List Act) (answer : HandleAnswer)
     → carried answer ≡ [] → counted answer [] ≡ []
     → PlainFlow s took accepted (has_closed acts) (gave acts) (peeked acts) (taken acts)
     → PlainFlow s took accepted (has_closed (Answered answer ∷ acts))
@@ -36,14 +36,14 @@ plain_answer s took accepted acts answer nothing none t = record {
       ∙ ap (counted answer) t.unfound ∙ none;
 }
 
-pub counts_none : (answer : Answer) → counted answer [] ≡ []
+pub counts_none : (answer : HandleAnswer) → counted answer [] ≡ []
 counts_none (Number n) = none_taken n
 counts_none _ = refl
 
 module _ (s : Session) (goal : Position) (capacity : ℕ) (last : Option SeenSession)
     (shut back dropped : Bool) (took accepted : List ℕ) (acts : List Act) (js ps ss : Bool) where
   -- the handle answers it
-  answered : (answer : Answer) → carried answer ≡ []
+  answered : (answer : HandleAnswer) → carried answer ≡ []
       → next_but_wake (Seeking goal) (Answered answer ∷ acts) ≡ Finish
       → At s (Seeking goal) capacity last shut back dropped took accepted acts js ps ss AskSeek
       → SessionAs s (Seeking goal) capacity last shut back dropped took accepted
@@ -68,7 +68,7 @@ module _ (s : Session) (goal : Position) (capacity : ℕ) (last : Option SeenSes
             t.seats;
       })
 
-  pub seek_answers : (answer : Answer) → is_answer AskSeek answer ≡ true
+  pub seek_answers : (answer : HandleAnswer) → is_answer AskSeek answer ≡ true
       → next_but_wake (Seeking goal) acts ≡ AskSeek
       → At s (Seeking goal) capacity last shut back dropped took accepted acts js ps ss AskSeek
       → SessionAs s (Seeking goal) capacity last shut back dropped took accepted

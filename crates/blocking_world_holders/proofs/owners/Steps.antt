@@ -5,7 +5,7 @@ use Rattle.std.proofs.Common.{is_none}
 use Rattle.std.proofs.lemmas.Bool.Decides.{nat_tests}
 use Rattle.blocking_world_holders.proofs.Types.{ItemAction, OpAction, ReadAction, SeekAction}
 use Rattle.blocking_world_holders.proofs.Types.{WriteAction, OwnerAction, Act, Answered, GaveUp}
-use Rattle.blocking_world_holders.proofs.Types.{HolderWoken, Event, Told, Answer, HandleCall}
+use Rattle.blocking_world_holders.proofs.Types.{HolderWoken, Event, Told, HandleAnswer, HandleCall}
 use Rattle.blocking_world_holders.proofs.Types.{SessionJob, OwnerNext, OwnerStage}
 use Rattle.blocking_world_holders.proofs.Words.{item_next, operation_next, OwnerMachine, read_next}
 use Rattle.blocking_world_holders.proofs.Words.{seek_next, write_next, Growth, is_in, came_back}
@@ -178,7 +178,7 @@ its_last bytes client asked here last n cut t among goes =
 -- ---- its job works
 
 -- a job that is to be answered isn't over
-asks_on : (job : SessionJob) (acts : List Act) (answer : Answer) → JobAs job acts
+asks_on : (job : SessionJob) (acts : List Act) (answer : HandleAnswer) → JobAs job acts
     → is_answer (action_of job) answer ≡ true → is_over (next_but_wake (kind_of job) acts) ≡ false
 asks_on (SessionJob.Read p) acts answer r is = goes_on (of_reader.asks p acts answer r is).1
 asks_on (SessionJob.Write p) acts answer r is = goes_on (of_writer.asks p acts answer r is)
@@ -534,7 +534,7 @@ module _ (bytes client : ℕ) (asked : Option HandleCall) (here : OwnerStage) (h
 
   -- its handle answers, at the session
   answered_at : (s : Session) (t : OwnerAs (owner_by_parts bytes client asked here (Some s)) cut)
-      (job : SessionJob) (answer : Answer) → its_kind s (bound bytes) cut t.last ≡ kind_of job
+      (job : SessionJob) (answer : HandleAnswer) → its_kind s (bound bytes) cut t.last ≡ kind_of job
       → is_in s.number.serial (jobs_of (own cut)) ≡ true → JobAs job (acts_of s.number.serial cut)
       → is_answer (action_of job) answer ≡ true
       → Goes (owner_by_parts bytes client asked here (Some s)) cut
@@ -623,7 +623,7 @@ given_up bytes client asked here last h v n first growth cut t among gone goes =
 answered : (bytes client : ℕ) (asked : Option HandleCall) (here : OwnerStage)
     (last : Option Session) (h v n first : ℕ) (growth : Growth) (cut : List Event)
     → OwnerAs (owner_by_parts bytes client asked here last) cut
-    → (job : SessionJob) (answer : Answer) → kind_of_job n (own cut) ≡ kind_of job
+    → (job : SessionJob) (answer : HandleAnswer) → kind_of_job n (own cut) ≡ kind_of job
     → JobAs job (acts_of n cut) → is_answer (action_of job) answer ≡ true
     → is_in n (jobs_of (own cut)) ≡ true
     → Goes (owner_by_parts bytes client asked here last) cut

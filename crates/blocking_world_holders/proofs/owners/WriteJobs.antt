@@ -3,7 +3,8 @@ use Rattle.std.proofs.Common.{◌≡◌, ℕ, zero, suc, ◌≤◌, List, [], �
 use Rattle.std.proofs.Common.{refl, sym, ap, ◌∙◌, subst, arith, Option, None, if◌then◌else◌, nat_le}
 use Rattle.std.proofs.lemmas.Bool.Decides.{nat_tests}
 use Rattle.blocking_world_holders.proofs.Types.{JobFault, WriteAction, WriteAnswer, Act, Answered}
-use Rattle.blocking_world_holders.proofs.Types.{HolderWoken, Peeked, Answer, Failed, Fine, Number}
+use Rattle.blocking_world_holders.proofs.Types.{HolderWoken, Peeked, HandleAnswer}
+use Rattle.blocking_world_holders.proofs.Types.{Failed, Fine, Number}
 use Rattle.blocking_world_holders.proofs.Words.{Machine, machine, WriteMachine, first_fault, noting}
 use Rattle.blocking_world_holders.proofs.Words.{write_after, write_by, write_next, Writing}
 use Rattle.blocking_world_holders.proofs.Words.{core_write_in as write_in, job_earlier, fault}
@@ -94,7 +95,7 @@ wakes p acts r is =
 -- ---- its writer answers
 
 -- a job that asks its writer does this by its table
-pub asks : (p : Progress) (acts : List Act) (answer : Answer) → WriteAs p acts
+pub asks : (p : Progress) (acts : List Act) (answer : HandleAnswer) → WriteAs p acts
     → is_answer (action_of p) answer ≡ true
     → Asks (action_as p.piece) Writing acts (plain p.core) answer (write_next p.core)
 asks p acts answer r is = machines.asks (action_as p.piece) WriteAction.Deliver refl Writing acts
@@ -102,7 +103,8 @@ asks p acts answer r is = machines.asks (action_as p.piece) WriteAction.Deliver 
 
 module _ (p : Progress) (acts : List Act) (r : WriteAs p acts) where
   -- what an answer leaves, by the table and by the fault that it tells
-  answered_by : {now : WriteAction} (next : WriteAction) (told : WriteAnswer ℕ) (answer : Answer)
+  answered_by : {now : WriteAction} (next : WriteAction) (told : WriteAnswer ℕ)
+      (answer : HandleAnswer)
       → Does (action_as p.piece) Writing acts (plain p.core) now
       → write_by now told ≡ machine next false
       → action_as p.piece next ≡ next_after_answer (action_as p.piece now) answer
@@ -114,7 +116,7 @@ module _ (p : Progress) (acts : List Act) (r : WriteAs p acts) where
       (told_first p.core.fault (core.fault_in now told) ∙ ap (job_earlier (fault_of p.core)) why
       ∙ fault_on d answer (fault_of p.core) r.fault_is)
 
-  by_action : (now : WriteAction) (answer : Answer)
+  by_action : (now : WriteAction) (answer : HandleAnswer)
       → Does (action_as p.piece) Writing acts (plain p.core) now
       → is_answer (action_as p.piece now) answer ≡ true
       → WriteAs (progress_after_answer p answer) (Answered answer ∷ acts)
@@ -141,7 +143,7 @@ module _ (p : Progress) (acts : List Act) (r : WriteAs p acts) where
   by_action _ answer d fits = absurd (cc)
 
 -- The writer answered so, and the job goes on by its table.
-pub answers : (p : Progress) (acts : List Act) (answer : Answer) → WriteAs p acts
+pub answers : (p : Progress) (acts : List Act) (answer : HandleAnswer) → WriteAs p acts
     → is_answer (action_of p) answer ≡ true
     → WriteAs (progress_after_answer p answer) (Answered answer ∷ acts)
 answers p acts answer r is =

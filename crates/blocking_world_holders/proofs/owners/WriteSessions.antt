@@ -8,7 +8,7 @@ use Rattle.std.proofs.lemmas.Bool.Decides.{nat_tests}
 use Rattle.std.proofs.lemmas.List.{take-append-le}
 use Rattle.blocking_world_holders.proofs.Types.{Fault, Io, WriteZero, Act, Answered, Drained}
 use Rattle.blocking_world_holders.proofs.Types.{JobParked, Peeked, TakenOut as Taken, HolderWaker}
-use Rattle.blocking_world_holders.proofs.Types.{Answer, Failed, Fine, Number}
+use Rattle.blocking_world_holders.proofs.Types.{HandleAnswer, Failed, Fine, Number}
 use Rattle.blocking_world_holders.proofs.Words.{Closed, Served, Waiting, peek, handle_answers}
 use Rattle.blocking_world_holders.proofs.Words.{has_failed_write, AskBytes, AskCall, AskFlush}
 use Rattle.blocking_world_holders.proofs.Words.{AskItem, AskResult, AskSeek, CloseEnd, Consume}
@@ -190,26 +190,27 @@ faulty (Some first) why e = cc
 module _ (s : Session) (capacity : ℕ) (last : Option SeenSession) (shut back dropped : Bool)
     (took accepted : List ℕ) (acts : List Act) (js ps ss : Bool) where
   -- its fault after an answer
-  fault_after : (action : JobAction) (answer : Answer) → next_but_wake Writing acts ≡ action → fault
+  fault_after : (action : JobAction) (answer : HandleAnswer) → next_but_wake Writing acts ≡ action
+      → fault
       Writing (Answered answer ∷ acts) ≡ earlier (fault Writing acts) (fault_in action answer)
   fault_after action answer e = ap (λ n. earlier (fault Writing acts) (fault_in n answer)) e
 
   -- a failure is a fault
-  fails : (action : JobAction) (answer : Answer) (why : Fault ℕ)
+  fails : (action : JobAction) (answer : HandleAnswer) (why : Fault ℕ)
       → next_but_wake Writing acts ≡ action → fault_in action answer ≡ Some why
       → fault Writing (Answered answer ∷ acts) ≡ None → ⊥
   fails action answer why e is none = faulty (fault Writing acts) why
       (ap (earlier (fault Writing acts)) (sym is) ∙ sym (fault_after action answer e) ∙ none)
 
   -- and where it is none, there was none before
-  goes_well : (action : JobAction) (answer : Answer) → next_but_wake Writing acts ≡ action
+  goes_well : (action : JobAction) (answer : HandleAnswer) → next_but_wake Writing acts ≡ action
       → fault_in action answer ≡ None → fault Writing (Answered answer ∷ acts) ≡ None
       → fault Writing acts ≡ None
   goes_well action answer e is none = sym (kept (fault Writing acts))
       ∙ ap (earlier (fault Writing acts)) (sym is) ∙ sym (fault_after action answer e) ∙ none
 
   -- what an answer leaves of a job that asks its writer
-  left : (action : JobAction) (answer : Answer) (next : JobAction) → is_over action ≡ false
+  left : (action : JobAction) (answer : HandleAnswer) (next : JobAction) → is_over action ≡ false
       → is_finding action ≡ false → is_over next ≡ false → carried answer ≡ []
       → next_after_answer action answer ≡ next → next_but_wake Writing acts ≡ action
       → (t : At s Writing capacity last shut back dropped took accepted acts js ps ss action)
@@ -252,7 +253,7 @@ module _ (s : Session) (capacity : ℕ) (last : Option SeenSession) (shut back d
       })
 
   -- it took nothing, where that is a fault: the job has its writer flushed
-  nothing_taken : (piece : List ℕ) (answer : Answer) (why : Fault ℕ)
+  nothing_taken : (piece : List ℕ) (answer : HandleAnswer) (why : Fault ℕ)
       → ((found : List ℕ) → counted answer found ≡ []) → carried answer ≡ []
       → fault_in (OfferBytes piece) answer ≡ Some why
       → next_after_answer (OfferBytes piece) answer ≡ AskFlush
@@ -270,7 +271,7 @@ module _ (s : Session) (capacity : ℕ) (last : Option SeenSession) (shut back d
       (λ none. absurd (fails (OfferBytes piece) answer why e failed none))
 
   -- it answers what it was asked for
-  pub writer_answers : (action : JobAction) (answer : Answer) → is_answer action answer ≡ true
+  pub writer_answers : (action : JobAction) (answer : HandleAnswer) → is_answer action answer ≡ true
       → next_but_wake Writing acts ≡ action
       → SessionAs s Writing capacity last shut back dropped took accepted acts js ps ss
       → SessionAs s Writing capacity last shut back dropped took accepted (Answered answer ∷ acts)

@@ -4,7 +4,7 @@ ghost use Rattle.blocking_core.specs.declared.unblock.OwnerAction.TheVariants as
 
 use crate::owner::{Owner, OwnerStage, PollEnd, serial_of};
 use crate::read::ReadProgress;
-use crate::session::Found;
+use crate::session::ReadFound;
 use blocking_core::job::ReadAction;
 use blocking_core::unblock::{OwnerAnswer, OwnerCall};
 use blocking_world_laws::event::Act;
@@ -39,7 +39,7 @@ impl Owner {
         }
         let mut poll = poll;
         match session.drain(room) {
-            Found::Bytes(bytes, note) => {
+            ReadFound::Bytes(bytes, note) => {
                 let serial = serial_of(&note);
                 poll.answer(OwnerAnswer::Got {
                     count: bytes.as_slice().len(),
@@ -48,12 +48,12 @@ impl Owner {
                 self.go_on(poll, note);
                 Some(Act::Got(bytes, serial))
             }
-            Found::End => {
+            ReadFound::End => {
                 poll.answer(OwnerAnswer::Ended);
                 self.set_stage(OwnerStage::Polls(poll));
                 Some(Act::GotEnd)
             }
-            Found::Nothing => {
+            ReadFound::Nothing => {
                 self.set_stage(OwnerStage::Rests(poll.state(), PollEnd::Waits));
                 Some(Act::Waits)
             }

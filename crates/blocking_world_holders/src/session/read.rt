@@ -11,7 +11,7 @@ use blocking_world_laws::bytes::Bytes;
 use blocking_world_laws::event::{Act, HolderWaker};
 
 /// What an owner finds in the pipe.
-pub(crate) enum Found {
+pub(crate) enum ReadFound {
     /// These bytes, and the note of a job that waited.
     Bytes(Bytes, Option<WakeNote>),
     /// Nothing yet: the owner is seated.
@@ -35,7 +35,7 @@ impl Session {
     }
 
     /// The owner drains the pipe into this room, whose length is how many bytes come out: none where none are inside.
-    pub(crate) fn drain(&mut self, room: Vec<u8>) -> Found
+    pub(crate) fn drain(&mut self, room: Vec<u8>) -> ReadFound
         requires bytes { self.old.goods ≡ OfBytes }
         requires within { vec_len room ≤ length self.old.pipe.items }
         requires some { 0 < length self.old.pipe.items → 0 < vec_len room }
@@ -54,14 +54,14 @@ impl Session {
             spare: _spare,
         } = pipe.drain_or_seat((), room.as_mut_slice());
         match answer {
-            Drained::Got(_, note) => Found::Bytes(Bytes::new(room), note),
-            Drained::Ended => Found::End,
-            Drained::Waits(_at_the_pipe) => Found::Nothing,
+            Drained::Got(_, note) => ReadFound::Bytes(Bytes::new(room), note),
+            Drained::Ended => ReadFound::End,
+            Drained::Waits(_at_the_pipe) => ReadFound::Nothing,
         }
     }
 
     // The owner drains the pipe, in which nothing is inside: it is at its end, or the owner is seated.
-    fn find_nothing(&mut self) -> Found
+    fn find_nothing(&mut self) -> ReadFound
         requires bytes { self.old.goods ≡ OfBytes }
         requires empty { self.old.pipe.items ≡ [] }
         ensures found { result ≡ found_as (drained 0 self.old) }
@@ -77,8 +77,8 @@ impl Session {
         } = pipe.drain_or_seat((), &mut one);
         match answer {
             Drained::Got(_, _note) => unreachable!(),
-            Drained::Ended => Found::End,
-            Drained::Waits(_at_the_pipe) => Found::Nothing,
+            Drained::Ended => ReadFound::End,
+            Drained::Waits(_at_the_pipe) => ReadFound::Nothing,
         }
     }
 

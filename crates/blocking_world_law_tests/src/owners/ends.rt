@@ -7,7 +7,7 @@ ghost use Rattle.blocking_world_laws.specs.OwnerTraces.{one_made, room_found, re
 ghost use Rattle.blocking_world_laws.specs.declared.event.Act.TheVariants.{Got, Replied, Answered, Put};
 ghost use Rattle.blocking_world_laws.specs.declared.event.Reply.TheVariants.{Count};
 ghost use Rattle.blocking_world_laws.specs.declared.event.HolderWaker.TheVariants.{Absent};
-ghost use Rattle.blocking_world_laws.specs.declared.step.Answer.TheVariants.{Gave};
+ghost use Rattle.blocking_world_laws.specs.declared.step.HandleAnswer.TheVariants.{Gave};
 ghost use Rattle.blocking_world_laws.specs.declared.step.HandleCall.TheVariants.{Read};
 
 /// A reader's end is told where the handle came back in that poll, from a session that gave all and met no failure.

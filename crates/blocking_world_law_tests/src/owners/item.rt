@@ -19,7 +19,7 @@ ghost use Rattle.blocking_world_laws.specs.declared.event.Act.TheVariants.{Made,
 ghost use Rattle.blocking_world_laws.specs.declared.event.HolderWaker.TheVariants.{Taken, Absent};
 ghost use Rattle.blocking_world_laws.specs.declared.event.Party.TheVariants.{Owner};
 ghost use Rattle.blocking_world_laws.specs.declared.event.Reply.TheVariants.{Count, OneItem, NoMore, Handle, NotBegun, Failed as FailedReply};
-ghost use Rattle.blocking_world_laws.specs.declared.step.Answer.TheVariants.{Number, Gave, Item, NoItem, Failed};
+ghost use Rattle.blocking_world_laws.specs.declared.step.HandleAnswer.TheVariants.{Number, Gave, Item, NoItem, Failed};
 ghost use Rattle.blocking_world_laws.specs.declared.step.HandleCall.TheVariants.{Read, Next, GetMut};
 ghost use Rattle.blocking_world_laws.specs.declared.step.Step.TheVariants.{New};
 ghost use Rattle.blocking_core.specs.declared.io.Fault.TheVariants as fault;

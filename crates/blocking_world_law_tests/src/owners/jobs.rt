@@ -8,7 +8,7 @@ ghost use Rattle.blocking_world_laws.specs.OwnerTraces.{reader_taken, room_found
 ghost use Rattle.blocking_world_laws.specs.OwnerTraces.{stop_finished, reader_dropped, failed};
 ghost use Rattle.blocking_world_laws.specs.declared.event.Act.TheVariants.{TookDropped, Answered, RoomFree, Put, Finished, GaveUp};
 ghost use Rattle.blocking_world_laws.specs.declared.event.HolderWaker.TheVariants.{Taken, Absent};
-ghost use Rattle.blocking_world_laws.specs.declared.step.Answer.TheVariants.{Number, Gave, Failed};
+ghost use Rattle.blocking_world_laws.specs.declared.step.HandleAnswer.TheVariants.{Number, Gave, Failed};
 
 /// A reading job looks for room, asks its reader, puts what it was given, and closes its end before it finishes.
 pub fn tables()

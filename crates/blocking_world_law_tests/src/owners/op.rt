@@ -16,7 +16,7 @@ ghost use Rattle.blocking_world_laws.specs.declared.event.Act.TheVariants.{Accep
 ghost use Rattle.blocking_world_laws.specs.declared.event.HolderWaker.TheVariants.{Taken, Absent};
 ghost use Rattle.blocking_world_laws.specs.declared.event.Party.TheVariants.{Owner};
 ghost use Rattle.blocking_world_laws.specs.declared.event.Reply.TheVariants.{Count, Handle, NotBegun};
-ghost use Rattle.blocking_world_laws.specs.declared.step.Answer.TheVariants.{Number, Failed};
+ghost use Rattle.blocking_world_laws.specs.declared.step.HandleAnswer.TheVariants.{Number, Failed};
 ghost use Rattle.blocking_world_laws.specs.declared.step.HandleCall.TheVariants.{Read, Operate, OperateAgain, GetMut};
 ghost use Rattle.blocking_world_laws.specs.declared.step.Step.TheVariants.{Ask};
 

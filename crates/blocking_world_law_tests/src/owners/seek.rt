@@ -13,7 +13,7 @@ ghost use Rattle.blocking_world_laws.specs.SeekTraces.{old_seek_taken, old_sough
 ghost use Rattle.blocking_world_laws.specs.declared.event.Act.TheVariants.{Accepted, Refused, OwnerClosed, Back, Replied, Waits, Answered, JobParked, JobClosed, Finished};
 ghost use Rattle.blocking_world_laws.specs.declared.event.HolderWaker.TheVariants.{Taken, Absent};
 ghost use Rattle.blocking_world_laws.specs.declared.event.Reply.TheVariants.{Okay, Count, Handle, Failed as FailedReply};
-ghost use Rattle.blocking_world_laws.specs.declared.step.Answer.TheVariants.{Number, Gave, Fine, Failed};
+ghost use Rattle.blocking_world_laws.specs.declared.step.HandleAnswer.TheVariants.{Number, Gave, Fine, Failed};
 ghost use Rattle.blocking_world_laws.specs.declared.step.HandleCall.TheVariants.{Read, Flush, Seek, GetMut};
 
 /// A poll begins a seek, waits for it, and tells where the handle is; from a session that isn't a seek it first takes the handle back.

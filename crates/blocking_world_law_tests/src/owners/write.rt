@@ -26,8 +26,8 @@ ghost use Rattle.blocking_world_laws.specs.declared.event.Event.{Event};
 ghost use Rattle.blocking_world_laws.specs.declared.event.HolderWaker.TheVariants.{Taken, Absent};
 ghost use Rattle.blocking_world_laws.specs.declared.event.Party.TheVariants.{Owner};
 ghost use Rattle.blocking_world_laws.specs.declared.event.Reply.TheVariants.{Okay, Count, Handle, Failed};
-ghost use Rattle.blocking_world_laws.specs.declared.step.Answer.TheVariants.{Number, Gave, Fine};
-ghost use Rattle.blocking_world_laws.specs.declared.step.Answer.TheVariants as answer;
+ghost use Rattle.blocking_world_laws.specs.declared.step.HandleAnswer.TheVariants.{Number, Gave, Fine};
+ghost use Rattle.blocking_world_laws.specs.declared.step.HandleAnswer.TheVariants as answer;
 ghost use Rattle.blocking_world_laws.specs.declared.step.HandleCall.TheVariants.{Read, Write, Flush, Close, GetMut};
 ghost use Rattle.blocking_world_laws.specs.declared.step.Step.TheVariants.{Ask};
 

@@ -36,7 +36,7 @@ ghost use Rattle.blocking_world_laws.specs.OwnerTraces.{reader_waits, room_found
 ghost use Rattle.blocking_world_laws.specs.OwnerTraces.{begun_for_client, told_before, reader_back, reader_dropped};
 ghost use Rattle.blocking_world_laws.specs.declared.event.Act.TheVariants.{Got, Replied, RoomFree, GaveUp};
 ghost use Rattle.blocking_world_laws.specs.declared.event.Reply.TheVariants.{Okay, Count};
-ghost use Rattle.blocking_world_laws.specs.declared.step.Answer.TheVariants.{Number, Gave};
+ghost use Rattle.blocking_world_laws.specs.declared.step.HandleAnswer.TheVariants.{Number, Gave};
 ghost use Rattle.blocking_world_laws.specs.declared.step.HandleCall.TheVariants.{Read, Write, Flush, GetMut};
 ghost use Rattle.blocking_core.specs.declared.io.Fault.TheVariants.{WriteZero};
 ghost use Rattle.blocking_world_laws.specs.JobTable.{Writing, fault};
@@ -59,7 +59,7 @@ ghost use Rattle.blocking_world_laws.specs.SeekTraces.{old_seek_taken, then_soug
 ghost use Rattle.blocking_world_laws.specs.OpTraces.{operation_begun, operation_taken, nine_put, older_asked, stop_for_operation, then_stopped, inner_asked, inner_waits, inner_replied};
 ghost use Rattle.blocking_world_laws.specs.declared.event.Act.TheVariants.{Made, GotItem, GotEnd, Back, ResultGot, JobParked, Put, ResultPut};
 ghost use Rattle.blocking_world_laws.specs.declared.event.Reply.TheVariants.{OneItem, NoMore, Handle, NotBegun, Failed as FailedReply};
-ghost use Rattle.blocking_world_laws.specs.declared.step.Answer.TheVariants.{Item, Fine, Failed as FailedAnswer};
+ghost use Rattle.blocking_world_laws.specs.declared.step.HandleAnswer.TheVariants.{Item, Fine, Failed as FailedAnswer};
 ghost use Rattle.blocking_world_laws.specs.OwnerTraces.{stop_back};
 ghost use Rattle.blocking_world_laws.specs.declared.step.HandleCall.TheVariants.{Close, Next, Seek, Operate, OperateAgain, IntoInner};
 ghost use Rattle.blocking_core.specs.declared.io.Fault.TheVariants.{Refused as FaultRefused};

@@ -5,7 +5,8 @@ use Rattle.std.proofs.lemmas.List.{set-set}
 use Rattle.std.proofs.lemmas.Bool.Decides.{nat_tests}
 use Rattle.blocking_world_laws.specs.Steps.{may_limit}
 use Rattle.blocking_world_pool.proofs.Types.{Took, Drop, Idle, Run, WorkerPass, Act, Arrived, Event}
-use Rattle.blocking_world_pool.proofs.Types.{Pool, Worker, Hand, Free, Holds, Out, Held, Stage}
+use Rattle.blocking_world_pool.proofs.Types.{Pool, Worker, Hand, Free}
+use Rattle.blocking_world_pool.proofs.Types.{Holds, Out, JobInHand, TurnStage}
 use Rattle.blocking_world_pool.proofs.Types.{Ticket}
 use Rattle.blocking_world_pool.proofs.Words.{after_arrival, Growth, Crew, may_act, is_waiting}
 use Rattle.blocking_world_pool.proofs.Words.{hand_at, with_hand, hand_of, is_free_hand, pass_in}
@@ -14,7 +15,7 @@ use Rattle.blocking_world_pool.proofs.Words.{Call, Arrive, Take, Work, Idles, Ar
 use Rattle.blocking_world_pool.proofs.Words.{TakesNone, Works, next_start, seen, nothing, named}
 use Rattle.blocking_world_pool.proofs.Words.{job_of_take, act_of_take, hand_after_take, has_action}
 use Rattle.blocking_world_pool.proofs.Words.{Moves, no_growth, JobPool, TakesTo}
-use Rattle.blocking_world_pool.specs.declared.hand.Stage.TheVariants as stage
+use Rattle.blocking_world_pool.specs.declared.hand.TurnStage.TheVariants as stage
 use Rattle.blocking_world_pool.proofs.hands.Loans.{pass_is, held_is, is_out}
 use Rattle.blocking_world_pool.proofs.hands.Rows.{at_free, at_held}
 use Rattle.blocking_world_pool.proofs.ready.Hands.{one_free}
@@ -57,7 +58,8 @@ module _ (row out : List Hand) (v : ℕ) (outs : out ≡ with_hand row v Out) wh
       ∙ is_out row v (Free pass) (at_free row v pass (pass_is (hand_at row v) pass is))
 
   -- a job was taken out
-  pub held_is_out : (test : Stage → Bool) (held : Held) → Some held ≡ held_if test (hand_at row v)
+  pub held_is_out : (test : TurnStage → Bool) (held : JobInHand)
+      → Some held ≡ held_if test (hand_at row v)
       → hand_of out v ≡ Some Out
   held_is_out test held is = ap (λ (r : List Hand). hand_of r v) outs
       ∙ is_out row v (Holds held) (at_held row v held (held_is test (hand_at row v) held is).0)
@@ -105,12 +107,12 @@ takes_by may_answer crew v old (Idle pass) growth pool event hands at takes is a
 -- ---- turns
 
 -- what is in a hand runs
-pub held_runs : (crew : Crew) (v : ℕ) (test : Stage → Bool) (held : Held)
+pub held_runs : (crew : Crew) (v : ℕ) (test : TurnStage → Bool) (held : JobInHand)
     → Some held ≡ held_if test (hand_at crew.hands v) → hand_at crew.hands v ≡ Holds held
 held_runs crew v test held is = (held_is test (hand_at crew.hands v) held is).0
 
 -- where a job is in its turn that waits
-pub waits_at : (at : Stage) → is_waiting at ≡ true → at ≡ stage.Waits
+pub waits_at : (at : TurnStage) → is_waiting at ≡ true → at ≡ stage.Waits
 waits_at at is = grind arith
 
 pub acts_by : (may_answer : ℕ → Bool → Type 0) (crew : Crew) (v : ℕ) (hand : Hand)

@@ -5,7 +5,7 @@ use Rattle.std.proofs.Common.{slice_set, Some, ap, ◌∙◌, subst, refl, arith
 use Rattle.std.specs.List.{AllWithin}
 use Rattle.std.proofs.lemmas.Bool.{eq-eqb}
 use Rattle.std.proofs.lemmas.Option.{slice_get_within, get_or_from_slice_get}
-use Rattle.blocking_world_pool.proofs.Types.{Hand, Free, Holds, Out, Held}
+use Rattle.blocking_world_pool.proofs.Types.{Hand, Free, Holds, Out, JobInHand}
 use Rattle.blocking_world_pool.proofs.Words.{without_job, RunsIn, AreIdle, one_if_free, free_hands}
 use Rattle.blocking_world_pool.proofs.Words.{IsReady, JobPool, AreValued}
 use Rattle.blocking_world_pool.specs.Closing.{EndsTurn}
@@ -23,7 +23,7 @@ runs_at pool row n hand ready found = grind (arith, hand_from_place)
 
 -- a hand that holds no job
 abbrev pub HoldsNone : Hand → Type 0
-HoldsNone hand = (held : Held) → hand ≡ Holds held → ⊥
+HoldsNone hand = (held : JobInHand) → hand ≡ Holds held → ⊥
 
 -- a hand after its turn has ended
 pub ended_holds_none : (hand after : Hand) (pool new : JobPool) → EndsTurn hand pool after new
@@ -63,7 +63,7 @@ module _ (pool : JobPool) (hands row : List Hand) (hand : Hand) (popped : hands 
   whole = subst (λ (h : List Hand). AreIdle pool h) popped idle
 
   -- the last hand holds no job
-  pub last_jobless : (held : Held) → hand ≡ Holds held → ⊥
+  pub last_jobless : (held : JobInHand) → hand ≡ Holds held → ⊥
   last_jobless held is = whole.jobless (length row) held
       (got_pushed row hand (length row) true (eq-eqb (length row) (length row) refl) ∙ ap Some is)
 

@@ -3,7 +3,8 @@ use Rattle.std.proofs.Common.{◌≡◌, ◌-◌, ◌==◌, ℕ, Bool, true, fal
 use Rattle.std.proofs.Common.{None, if◌then◌else◌, ap, sym, subst, refl, arith, ◌∙◌, OnSome}
 use Rattle.std.proofs.lemmas.Bool.{cond_both}
 use Rattle.std.proofs.lemmas.Bool.Decides.{nat_tests}
-use Rattle.blocking_world_pool.proofs.Types.{WorkerPass, Hand, Free, Holds, Out, Held, Stage}
+use Rattle.blocking_world_pool.proofs.Types.{WorkerPass, Hand, Free, Holds}
+use Rattle.blocking_world_pool.proofs.Types.{Out, JobInHand, TurnStage}
 use Rattle.blocking_world_pool.proofs.Words.{hand_in, hand_at, with_hand, hand_of, pass_in, held_if}
 use Rattle.blocking_pool.proofs.Places.{got_same, set_same}
 use Rattle.blocking_world_pool.proofs.hands.Rows.{IsAt}
@@ -15,7 +16,8 @@ pub pass_is : (hand : Hand) (pass : WorkerPass) → Some pass ≡ pass_in hand �
 pass_is hand pass is = grind arith
 
 -- a job of which a test holds is what a hand holds
-pub held_is : (test : Stage → Bool) (hand : Hand) (held : Held) → Some held ≡ held_if test hand
+pub held_is : (test : TurnStage → Bool) (hand : Hand) (held : JobInHand)
+    → Some held ≡ held_if test hand
     → (hand ≡ Holds held) × (test held.stage ≡ true)
 held_is test hand held is = grind arith
 

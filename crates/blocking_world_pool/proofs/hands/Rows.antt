@@ -4,7 +4,7 @@ use Rattle.std.proofs.Common.{length, refl, sym, ap, ◌∙◌, subst, arith, if
 use Rattle.std.proofs.Common.{zero, suc, slice_get, slice_set}
 use Rattle.std.proofs.lemmas.Bool.Decides.{nat_tests}
 use Rattle.std.proofs.lemmas.Option.{slice_get_past, slice_get_within}
-use Rattle.blocking_world_pool.proofs.Types.{Hand, Free, Holds, Out, Held}
+use Rattle.blocking_world_pool.proofs.Types.{Hand, Free, Holds, Out, JobInHand}
 use Rattle.blocking_world_pool.proofs.Words.{hand_in, hand_at, with_hand, sum_of}
 use Rattle.blocking_pool.proofs.Places.{got_same, got_other, got_pushed}
 
@@ -23,7 +23,7 @@ at_by b o h e in_use = grind arith
 pub is_at : (row : List Hand) (v : ℕ) (h : Hand) → hand_at row v ≡ h → (h ≡ Out → ⊥) → IsAt row v h
 is_at row v h e in_use = grind (arith, at_by, nat_tests, slice_get_within)
 
-pub at_held : (row : List Hand) (v : ℕ) (held : Held) → hand_at row v ≡ Holds held
+pub at_held : (row : List Hand) (v : ℕ) (held : JobInHand) → hand_at row v ≡ Holds held
     → IsAt row v (Holds held)
 at_held row v held e = is_at row v (Holds held) e (λ z. cc)
 

@@ -5,7 +5,7 @@ use Rattle.std.proofs.Common.{Option, Some, None, Ok, Err}
 use Rattle.std.specs.FinMap.{get}
 use Rattle.blocking_world_pool.proofs.Types.{Memory, NoWorker, Numbers, Stay, Stop, Standing, Ended}
 use Rattle.blocking_world_pool.proofs.Types.{TookDropped, Moment, Worker, WaitEnd, Step, Holds}
-use Rattle.blocking_world_pool.proofs.Types.{Held, Stage, Ticket, Parking}
+use Rattle.blocking_world_pool.proofs.Types.{JobInHand, TurnStage, Ticket, Parking}
 use Rattle.blocking_world_pool.proofs.Words.{limit_of, greatest, Growth, limit_after, JobNumber}
 use Rattle.blocking_world_pool.proofs.Words.{Job as Entry, is_empty, must_stop, wake_of, cancel_of}
 use Rattle.blocking_world_pool.proofs.Words.{take_from, take_answer, end_of, end_answer}
@@ -23,7 +23,7 @@ use Rattle.blocking_world_pool.proofs.Words.{moment_of, IsAsked}
 use Rattle.blocking_world_laws.specs.Queue.{ready as ready_by_law}
 use Rattle.blocking_world_laws.proofs.Queues.{answer_of_first}
 use Rattle.blocking_world_laws.specs.declared.event.Act.TheVariants.{Took}
-use Rattle.blocking_world_pool.specs.declared.hand.Stage.TheVariants as stage
+use Rattle.blocking_world_pool.specs.declared.hand.TurnStage.TheVariants as stage
 use Rattle.blocking_world_pool.specs.declared.tickets.Parking.TheVariants as parking
 use Rattle.blocking_world_pool.proofs.jobs.Lookups.{found_at}
 use Rattle.blocking_world_pool.proofs.ties.Acts.{plain, aside_plain, by_work, by_let_go}
@@ -55,7 +55,7 @@ took_rightly setting past now b s e = grind arith
 
 -- ---- the ends of turns
 
-end_is : (at : Stage) (drop woken : Bool) (s : ℕ) → may_end at ≡ true
+end_is : (at : TurnStage) (drop woken : Bool) (s : ℕ) → may_end at ≡ true
     → Ended s (standing_after (outcome_of at)) ≡ end_of (turn_of at) drop woken s
 end_is at drop woken s may = grind arith
 
@@ -81,14 +81,14 @@ module _ (setting : ℕ) (plan : List Bool) (crew : Crew) (past : List Moment) (
       ∙ sym (answer_of_first past s (ready_by_law past)
       (ap first_of (sym (ready_seen setting plan crew past h)) ∙ front.front))
 
-  ends : (held : Held) (v : ℕ) → hand_at crew.hands v ≡ Holds held
+  ends : (held : JobInHand) (v : ℕ) → hand_at crew.hands v ≡ Holds held
       → may_end held.stage ≡ true → Ended held.turn.serial (standing_after (outcome_of held.stage))
       ≡ end_answer past held.turn.serial
   ends held v at may = rw (h.tied.handed.turn_is v held at) (end_is held.stage
       (is_to_drop past held.turn.serial) (is_woken past held.turn.serial) held.turn.serial may)
 
   -- the end of a run that waits
-  parks : (held : Held) (v : ℕ) (ticket : Ticket) (parked : Parking) (pool : JobPool)
+  parks : (held : JobInHand) (v : ℕ) (ticket : Ticket) (parked : Parking) (pool : JobPool)
       → hand_at crew.hands v ≡ Holds held
       → held.stage ≡ stage.Waits → ParksSo crew.pool held.turn ticket parked pool
       → ticket.is_marked ≡ is_marked past held.turn.serial

@@ -1,7 +1,7 @@
 -- The law of turns holds at each move.
 use Rattle.std.proofs.Common.{◌≡◌, ℕ, List, Bool, true, false, Option, Some, None, Ok, arith}
 use Rattle.blocking_world_pool.proofs.Types.{Stay, WorkerPass, Act, Moment, Party, Step, Free}
-use Rattle.blocking_world_pool.proofs.Types.{Holds, Held, Ticket}
+use Rattle.blocking_world_pool.proofs.Types.{Holds, JobInHand, Ticket}
 use Rattle.blocking_world_pool.proofs.Words.{Growth, JobNumber, is_in, IsPlanned, running, hand}
 use Rattle.blocking_world_pool.proofs.Words.{TurnLaw, Crew, hand_at, Move, Adds, TakesJob, Works}
 use Rattle.blocking_world_pool.proofs.Words.{EndsTurn, Parks, HasWaited, IsLetGo, Tells, next_start}
@@ -29,12 +29,12 @@ module _ (setting : ℕ) (plan : List Bool) (crew : Crew) (past : List Moment) (
   )
 
   -- the job in a hand was seen there
-  its_job : (v : ℕ) (held : Held) → hand_at crew.hands v ≡ Holds held
+  its_job : (v : ℕ) (held : JobInHand) → hand_at crew.hands v ≡ Holds held
       → hand past v ≡ Some held.turn.serial
   its_job v held at = (hand_seen setting plan crew past step owner h v (Holds held) at).1
 
   -- a job in its hand does what fits its turn
-  works : (v : ℕ) (held : Held) (act : Act) → May (IsPlanned plan) crew (Works v held act)
+  works : (v : ℕ) (held : JobInHand) (act : Act) → May (IsPlanned plan) crew (Works v held act)
       → TurnLaw past (moment_of crew (Works v held act) step owner)
   works v held act may = grind arith
 

@@ -4,7 +4,7 @@ use Rattle.std.proofs.Common.{◌∷◌, ◌++◌, refl, sym, ap, ◌∙◌, sub
 use Rattle.std.proofs.lemmas.Bool.{cond_both}
 use Rattle.std.specs.FinMap.{get, get-empty}
 use Rattle.std.specs.Ordering.{nat_cmp}
-use Rattle.blocking_world_pool.proofs.Types.{WorkerPass, Hand, Free, Holds, Out, Held}
+use Rattle.blocking_world_pool.proofs.Types.{WorkerPass, Hand, Free, Holds, Out, JobInHand}
 use Rattle.blocking_world_pool.proofs.Words.{is_running_as, empty_pool, Crew, hand_at, with_hand}
 use Rattle.blocking_world_pool.proofs.Words.{one_if_free, IsReady, JobPool, is_valued, AreValued}
 use Rattle.blocking_world_pool.proofs.hands.Rows.{IsAt, hand_set, hand_pushed, sum_set, sum_pushed}
@@ -25,10 +25,10 @@ pub record HandFits (crew : Crew) (pool : JobPool) (v : ℕ) (old new : Hand) : 
   pub at : IsAt crew.hands v old
   pub level : pool.counts.idle + one_if_free old + crew.pool.counts.arriving
       ≡ crew.pool.counts.idle + pool.counts.arriving + one_if_free new
-  pub others : (u : ℕ) (held : Held) → (v == u) ≡ false → hand_at crew.hands u ≡ Holds held
+  pub others : (u : ℕ) (held : JobInHand) → (v == u) ≡ false → hand_at crew.hands u ≡ Holds held
       → is_running_as pool.jobs held.turn ≡ true
-  pub own : (held : Held) → new ≡ Holds held → is_running_as pool.jobs held.turn ≡ true
-  pub alone : (u : ℕ) (held other : Held) → (v == u) ≡ false → new ≡ Holds held
+  pub own : (held : JobInHand) → new ≡ Holds held → is_running_as pool.jobs held.turn ≡ true
+  pub alone : (u : ℕ) (held other : JobInHand) → (v == u) ≡ false → new ≡ Holds held
       → hand_at crew.hands u ≡ Holds other → held.turn.serial ≡ other.turn.serial → ⊥
   pub valued : AreValued pool.jobs
 
@@ -37,12 +37,12 @@ module _ (crew : Crew) (pool : JobPool) (v : ℕ) (old new : Hand) (ready : IsRe
   row : List Hand
   row = with_hand crew.hands v new
 
-  runs_by : (u : ℕ) (held : Held) (b : Bool)
+  runs_by : (u : ℕ) (held : JobInHand) (b : Bool)
       → (v == u) ≡ b → (if b then new else hand_at crew.hands u) ≡ Holds held
       → is_running_as pool.jobs held.turn ≡ true
   runs_by u held b same is = grind arith
 
-  apart_by : (u w : ℕ) (one other : Held) (b c : Bool)
+  apart_by : (u w : ℕ) (one other : JobInHand) (b c : Bool)
       → (v == u) ≡ b → (v == w) ≡ c → (if b then new else hand_at crew.hands u) ≡ Holds one
       → (if c then new else hand_at crew.hands w) ≡ Holds other
       → one.turn.serial ≡ other.turn.serial → u ≡ w
@@ -65,7 +65,7 @@ module _ (crew : Crew) (pool : JobPool) (v : ℕ) (old new : Hand) (ready : IsRe
 
 -- ---- one more hand
 
-pushed_at : (crew : Crew) (pass : WorkerPass) (u : ℕ) (held : Held)
+pushed_at : (crew : Crew) (pass : WorkerPass) (u : ℕ) (held : JobInHand)
     → hand_at (crew.hands ++ Free pass ∷ []) u ≡ Holds held → hand_at crew.hands u ≡ Holds held
 pushed_at crew pass u held is = grind (arith, cond_both, hand_pushed)
 
@@ -78,7 +78,7 @@ push_ready crew pool pass ready same level = grind (arith, sum_pushed, pushed_at
 
 -- ---- a new crew
 
-pub no_hand : (v : ℕ) (held : Held) → hand_at [] v ≡ Holds held → ⊥
+pub no_hand : (v : ℕ) (held : JobInHand) → hand_at [] v ≡ Holds held → ⊥
 no_hand v held =
     cond_both (v == 0) Out Out (λ hand. hand ≡ Holds held → ⊥) (λ is e. cc) (λ is e. cc)
 

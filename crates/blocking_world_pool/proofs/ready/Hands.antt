@@ -3,8 +3,9 @@ use Rattle.std.proofs.Common.{◌≡◌, ℕ, ◌+◌, ◌-◌, ◌<◌, ◌==�
 use Rattle.std.proofs.Common.{arith, Option, Some, None, if◌then◌else◌}
 use Rattle.std.specs.FinMap.{get, insert}
 use Rattle.std.proofs.lemmas.Bool.{ne_eqb, eqb-false, cond_both}
-use Rattle.blocking_world_pool.proofs.Types.{Standing, WorkerPass, Hand, Free, Holds, Out, Held}
-use Rattle.blocking_world_pool.proofs.Types.{Stage, Ticket}
+use Rattle.blocking_world_pool.proofs.Types.{Standing, WorkerPass, Hand, Free}
+use Rattle.blocking_world_pool.proofs.Types.{Holds, Out, JobInHand}
+use Rattle.blocking_world_pool.proofs.Types.{TurnStage, Ticket}
 use Rattle.blocking_world_pool.proofs.Words.{Growth, JobNumber, Job, Jobs, entry_after_take}
 use Rattle.blocking_world_pool.proofs.Words.{is_running_job, if_at, is_running_as, without_job}
 use Rattle.blocking_world_pool.proofs.Words.{Crew, hand_at, with_hand, one_if_free, free_hands}
@@ -30,7 +31,7 @@ one_free crew v pass ready at =
 
 -- a worker that held no job holds none
 pub free_ready : (crew : Crew) (pool : JobPool) (v : ℕ) (old : WorkerPass) (new : Hand)
-    → IsReady crew → hand_at crew.hands v ≡ Free old → ((held : Held) → new ≡ Holds held → ⊥)
+    → IsReady crew → hand_at crew.hands v ≡ Free old → ((held : JobInHand) → new ≡ Holds held → ⊥)
     → ((s : ℕ) → IsKept false (get crew.pool.jobs s) (get pool.jobs s)) → pool.counts.idle + 1
     + crew.pool.counts.arriving ≡ crew.pool.counts.idle + pool.counts.arriving + one_if_free new
     → IsReady (record { pool = pool; hands = with_hand crew.hands v new })
@@ -45,13 +46,13 @@ free_ready crew pool v old new ready at jobless kept level =
       valued = λ s. (kept s).valued (ready.valued s);
     })
 
-turn_in : (turn : JobNumber) (stage : Stage) (held : Held)
+turn_in : (turn : JobNumber) (stage : TurnStage) (held : JobInHand)
     → Holds (record { turn = turn; stage = stage }) ≡ Holds held → turn ≡ held.turn
 turn_in turn stage held is = let e : record { turn = turn; stage = stage } ≡ held = cc in
-    ap (λ (h : Held). h.turn) e
+    ap (λ (h : JobInHand). h.turn) e
 
 -- a job in hand goes on in its turn
-pub turn_ready : (crew : Crew) (v : ℕ) (held : Held) (turn : JobNumber) (stage : Stage)
+pub turn_ready : (crew : Crew) (v : ℕ) (held : JobInHand) (turn : JobNumber) (stage : TurnStage)
     → IsReady crew → hand_at crew.hands v ≡ Holds held → turn ≡ held.turn
     → IsReady (record {
       pool = crew.pool;
@@ -73,14 +74,14 @@ turn_ready crew v held turn stage ready at same =
 
 -- ---- a turn ends
 
-module _ (crew : Crew) (pool : JobPool) (v : ℕ) (held : Held) (pass : WorkerPass)
+module _ (crew : Crew) (pool : JobPool) (v : ℕ) (held : JobInHand) (pass : WorkerPass)
     (ready : IsReady crew) (at : hand_at crew.hands v ≡ Holds held)
     (idle : pool.counts.idle ≡ crew.pool.counts.idle + 1)
     (arriving : pool.counts.arriving ≡ crew.pool.counts.arriving)
     (others : (number : JobNumber) → (held.turn.serial == number.serial) ≡ false
     → is_running_as pool.jobs number ≡ is_running_as crew.pool.jobs number)
     (valued : AreValued pool.jobs) where
-  differs : (u : ℕ) (other : Held) → (v == u) ≡ false → hand_at crew.hands u ≡ Holds other
+  differs : (u : ℕ) (other : JobInHand) → (v == u) ≡ false → hand_at crew.hands u ≡ Holds other
       → (held.turn.serial == other.turn.serial) ≡ false
   differs u other apart there = ne_eqb held.turn.serial other.turn.serial
       (λ same. eqb-false v u apart (ready.apart v u held other at there same))
@@ -98,7 +99,7 @@ module _ (crew : Crew) (pool : JobPool) (v : ℕ) (held : Held) (pass : WorkerPa
   })
 
 -- the job is over
-pub over_ready : (crew : Crew) (v : ℕ) (held : Held) (pass : WorkerPass) → IsReady crew
+pub over_ready : (crew : Crew) (v : ℕ) (held : JobInHand) (pass : WorkerPass) → IsReady crew
     → hand_at crew.hands v ≡ Holds held
     → IsReady (record {
       pool = without_job crew.pool held.turn.serial;
@@ -114,7 +115,7 @@ over_ready crew v held pass ready at =
 
 -- the job waits, or is queued again
 pub left_ready : (may_answer : ℕ → Bool → Type 0) (crew : Crew) (move : Move)
-    (v : ℕ) (held : Held) (pass : WorkerPass) → IsReady crew → May may_answer crew move
+    (v : ℕ) (held : JobInHand) (pass : WorkerPass) → IsReady crew → May may_answer crew move
     → hand_at crew.hands v ≡ Holds held
     → ((s : ℕ) → (change_of crew move).which s ≡ (held.turn.serial == s))
     → (after crew move).pool.counts.idle ≡ crew.pool.counts.idle + 1
@@ -136,7 +137,7 @@ queued_runs found job place there idle runs = let bad : true ≡ false =
     sym (runs_at place found runs) ∙ ap is_running_job there ∙ idle in cc
 
 module _ (may_answer : ℕ → Bool → Type 0) (crew : Crew) (pool : JobPool) (v : ℕ) (pass : WorkerPass)
-    (turn : JobNumber) (ticket : Ticket) (to_drop : Bool) (stage : Stage) (growth : Growth)
+    (turn : JobNumber) (ticket : Ticket) (to_drop : Bool) (stage : TurnStage) (growth : Growth)
     (ready : IsReady crew) (at : hand_at crew.hands v ≡ Free pass)
     (takes : TakesFront may_answer crew.pool turn ticket to_drop growth pool) (kept : (s : ℕ)
     → IsKept false (get crew.pool.jobs s) (get pool.jobs s)) where
@@ -144,7 +145,7 @@ module _ (may_answer : ℕ → Bool → Type 0) (crew : Crew) (pool : JobPool) (
   taken_jobs = ap (λ (p : JobPool). p.jobs) takes.after_is
 
   -- the front job is in no hand
-  unheld : (u : ℕ) (held : Held) → hand_at crew.hands u ≡ Holds held
+  unheld : (u : ℕ) (held : JobInHand) → hand_at crew.hands u ≡ Holds held
       → turn.serial ≡ held.turn.serial → ⊥
   unheld u held there same =
       queued_runs (get crew.pool.jobs held.turn.serial) takes.job held.turn.place

@@ -9,7 +9,7 @@ use Rattle.blocking_world_pool.proofs.Words.{TakesNone, Works, EndsTurn, Parks, 
 use Rattle.blocking_world_pool.proofs.Words.{SetsLimit, SetsClientLimit, Sweeps, IsWoken}
 use Rattle.blocking_world_pool.proofs.Words.{IsCancelled, IsLetGo, Tells, first_stage, after, May}
 use Rattle.blocking_world_pool.proofs.Words.{Moves, JobPool}
-use Rattle.blocking_world_pool.specs.declared.hand.Stage.TheVariants as stage
+use Rattle.blocking_world_pool.specs.declared.hand.TurnStage.TheVariants as stage
 use Rattle.blocking_world_pool.specs.declared.tickets.Parking.TheVariants as parking
 use Rattle.blocking_world_pool.proofs.growth.Sweeps.{sweep_level}
 use Rattle.blocking_world_pool.proofs.jobs.Marks.{let_go_alone}

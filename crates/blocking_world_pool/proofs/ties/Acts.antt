@@ -6,7 +6,7 @@ use Rattle.blocking_world_pool.proofs.Types.{NoWorker, Done, Dropped, Act, Accep
 use Rattle.blocking_world_pool.proofs.Types.{GaveUp, HandedOut, HolderDropped, JobCancelled}
 use Rattle.blocking_world_pool.proofs.Types.{JobParked, JobWoken, ClientLimitSet, LimitSet, Refused}
 use Rattle.blocking_world_pool.proofs.Types.{Stays, Stopped, Swept, TaskCancelled, TookDropped}
-use Rattle.blocking_world_pool.proofs.Types.{TookNone, HolderWaker, Moment, Party, Step, Stage}
+use Rattle.blocking_world_pool.proofs.Types.{TookNone, HolderWaker, Moment, Party, Step, TurnStage}
 use Rattle.blocking_world_pool.proofs.Types.{Ticket}
 use Rattle.blocking_world_pool.proofs.Words.{Growth, Job as Entry, one_if, PoolAnswers, is_arrival}
 use Rattle.blocking_world_pool.proofs.Words.{is_stop, limit_by, grows, turned_away, HasWorker}
@@ -18,7 +18,7 @@ use Rattle.blocking_world_pool.proofs.Words.{turn_of, Handed}
 use Rattle.blocking_world_laws.specs.Jobs.{client}
 use Rattle.blocking_world_laws.specs.Queue.{client_limit}
 use Rattle.blocking_world_laws.specs.declared.event.Act.TheVariants.{Took}
-use Rattle.blocking_world_pool.specs.declared.hand.Stage.TheVariants as stage
+use Rattle.blocking_world_pool.specs.declared.hand.TurnStage.TheVariants as stage
 
 -- the moment of an act, as the layer above sees it
 abbrev pub now_with : Step → Option ℕ → Party → Option ℕ → Act → ℕ → Growth → Moment
@@ -143,10 +143,10 @@ pub aside_plain : (act : Act) → is_aside act ≡ true → is_plain act ≡ tru
 aside_plain act is = grind arith
 
 -- an act of a job: it goes on in its turn, or waits from then on, or gives up
-pub by_work : (P : Stage → Act → Type 0) → ((at : Stage) (act : Act) → is_plain act ≡ true
+pub by_work : (P : TurnStage → Act → Type 0) → ((at : TurnStage) (act : Act) → is_plain act ≡ true
     → turn_of (stage_after act at) ≡ turn_of at → FitsTurn (turn_of at) act → P at act)
     → P stage.Runs JobParked → ((waker : HolderWaker) → P stage.MustGiveUp (GaveUp waker))
-    → (at : Stage) (act : Act) → may_act at act ≡ true → P at act
+    → (at : TurnStage) (act : Act) → may_act at act ≡ true → P at act
 by_work P goes_on parks gives_up at act may = grind arith
 
 -- an act by which a holder lets go
@@ -155,6 +155,6 @@ pub by_let_go : (P : Act → Type 0) → P HolderDropped → P TaskCancelled →
 by_let_go P dropped cancelled act is = grind arith
 
 -- the end of a job
-pub by_end : (P : Act → Type 0) (s : ℕ) → P (Ended s Done) → P (Ended s Dropped) → (at : Stage)
+pub by_end : (P : Act → Type 0) (s : ℕ) → P (Ended s Done) → P (Ended s Dropped) → (at : TurnStage)
     → P (Ended s (standing_after (outcome_of at)))
 by_end P s done dropped at = grind arith

@@ -9,7 +9,7 @@ use Rattle.blocking_world_pool.proofs.Types.{Memory, NoWorker, Numbers, Stay, St
 use Rattle.blocking_world_pool.proofs.Types.{Entered as PutBack, One, Standing, Parked, Queued}
 use Rattle.blocking_world_pool.proofs.Types.{WorkerPass, Act, Accepted, Ended, Refused, Stopped}
 use Rattle.blocking_world_pool.proofs.Types.{Moment, Party, Worker, WaitEnd, Step, Hand, Free}
-use Rattle.blocking_world_pool.proofs.Types.{Holds, Out, Held, Ticket}
+use Rattle.blocking_world_pool.proofs.Types.{Holds, Out, JobInHand, Ticket}
 use Rattle.blocking_world_pool.proofs.Words.{Counts, limit_of, louder, after_pickup, after_release}
 use Rattle.blocking_world_pool.proofs.Words.{after_stop, greatest, Growth, number_after}
 use Rattle.blocking_world_pool.proofs.Words.{limit_after, after_growth, one_if, ready, ready_with}
@@ -190,7 +190,7 @@ module _ (setting : ℕ) (plan : List Bool) (crew : Crew) (past : List Moment) (
     h.tied.counted.busy_are,
   )
 
-  busy_held : (v : ℕ) (held : Held) (new : Hand) → hand_at crew.hands v ≡ Holds held
+  busy_held : (v : ℕ) (held : JobInHand) (new : Hand) → hand_at crew.hands v ≡ Holds held
       → busy_hands (with_hand crew.hands v new) + 1 ≡ length (running past) + one_if_busy new
   busy_held v held new e = omega (
     arith,
@@ -373,7 +373,8 @@ module _ (setting : ℕ) (plan : List Bool) (crew : Crew) (past : List Moment) (
       }
 
   -- a turn ends
-  ended : (v : ℕ) (held : Held) (how : Standing) (pool : JobPool) (pass : WorkerPass) (bell : _)
+  ended : (v : ℕ) (held : JobInHand) (how : Standing) (pool : JobPool) (pass : WorkerPass)
+      (bell : _)
       → hand_at crew.hands v ≡ Holds held
       → pool.counts ≡ record (after_release crew.pool.counts) { bell = bell }
       → pool.next_serial ≡ crew.pool.next_serial → Lined pool

@@ -6,7 +6,7 @@ use Rattle.std.proofs.lemmas.Bool.{eqb-true, eqb-false, eq-eqb, ne_eqb, cond_bot
 use Rattle.blocking_world_pool.proofs.Types.{Stay, Stop, Standing, Parked, Queued, Running}
 use Rattle.blocking_world_pool.proofs.Types.{WorkerPass, Act, Ended, GaveUp, JobParked, HolderWaker}
 use Rattle.blocking_world_pool.proofs.Types.{Moment, Party, Worker, Step, Hand, Free, Holds, Out}
-use Rattle.blocking_world_pool.proofs.Types.{Held, Stage}
+use Rattle.blocking_world_pool.proofs.Types.{JobInHand, TurnStage}
 use Rattle.blocking_world_pool.proofs.Words.{Growth, JobNumber, IsPlanned, standing, is_there, Turn}
 use Rattle.blocking_world_pool.proofs.Words.{GoesOn, IsWaiting, MustGiveUp, HasGivenUp, turn, hand}
 use Rattle.blocking_world_pool.proofs.Words.{Crew, may_act, stage_after, outcome_of, standing_after}
@@ -15,7 +15,7 @@ use Rattle.blocking_world_pool.proofs.Words.{Arrives, TakesJob, TakesNone, Works
 use Rattle.blocking_world_pool.proofs.Words.{HasWaited, IsLetGo, Tells, next_start, first_stage}
 use Rattle.blocking_world_pool.proofs.Words.{after, May, no_growth, JobPool, HandAs, turn_of}
 use Rattle.blocking_world_pool.proofs.Words.{Handed, CrewHolds, moment_of}
-use Rattle.blocking_world_pool.specs.declared.hand.Stage.TheVariants as stage
+use Rattle.blocking_world_pool.specs.declared.hand.TurnStage.TheVariants as stage
 use Rattle.blocking_world_pool.specs.declared.tickets.Parking.TheVariants as parking
 use Rattle.blocking_world_pool.proofs.hands.Rows.{IsAt, at_held, at_free, hand_set, hand_pushed}
 use Rattle.blocking_world_pool.proofs.hands.Rows.{hand_next}
@@ -52,9 +52,9 @@ module _ (setting : ℕ) (plan : List Bool) (crew : Crew) (past : List Moment) (
       → HandAs new (is_there (last ∷ past) v) (hand (last ∷ past) v)
       → ((u : ℕ) → (v == u) ≡ false
       → (is_there (last ∷ past) u ≡ is_there past u) × (hand (last ∷ past) u ≡ hand past u))
-      → ((held : Held) → new ≡ Holds held
+      → ((held : JobInHand) → new ≡ Holds held
       → turn (last ∷ past) held.turn.serial ≡ turn_of held.stage)
-      → ((u : ℕ) (held : Held) → (v == u) ≡ false → hand_at crew.hands u ≡ Holds held
+      → ((u : ℕ) (held : JobInHand) → (v == u) ≡ false → hand_at crew.hands u ≡ Holds held
       → turn (last ∷ past) held.turn.serial ≡ turn past held.turn.serial)
       → Handed (record { pool = pool; hands = with_hand crew.hands v new }) (last ∷ past)
   changed v old new pool last at here others own_turn other_turns = record {
@@ -72,7 +72,8 @@ module _ (setting : ℕ) (plan : List Bool) (crew : Crew) (past : List Moment) (
   }
 
   -- the job in another hand is another
-  other_job : (v u : ℕ) (one other : Held) → (v == u) ≡ false → hand_at crew.hands v ≡ Holds one
+  other_job : (v u : ℕ) (one other : JobInHand) → (v == u) ≡ false
+      → hand_at crew.hands v ≡ Holds one
       → hand_at crew.hands u ≡ Holds other → (one.turn.serial == other.turn.serial) ≡ false
   other_job v u one other e at is = ne_eqb one.turn.serial other.turn.serial
       (λ same. eqb-false v u e (h.ready.apart v u one other at is same))
@@ -80,7 +81,8 @@ module _ (setting : ℕ) (plan : List Bool) (crew : Crew) (past : List Moment) (
   -- ---- each kind of move
 
   -- a free worker takes a job
-  takes : (v : ℕ) (old : WorkerPass) (new : Held) (turn_now : Turn) (pool : JobPool) (last : Moment)
+  takes : (v : ℕ) (old : WorkerPass) (new : JobInHand) (turn_now : Turn) (pool : JobPool)
+      (last : Moment)
       → hand_at crew.hands v ≡ Free old → standing past new.turn.serial ≡ Some Queued
       → turn_now ≡ turn_of new.stage
       → ((u : ℕ) → is_there (last ∷ past) u ≡ is_there past u)
@@ -96,7 +98,7 @@ module _ (setting : ℕ) (plan : List Bool) (crew : Crew) (past : List Moment) (
       )
       (λ u e. (there u, job u ∙ ap (λ b. if b then Some t else hand past u) e))
       (λ held is. (let same : new ≡ held = cc in
-      subst (λ (g : Held). turn (last ∷ past) g.turn.serial ≡ turn_of g.stage) same
+      subst (λ (g : JobInHand). turn (last ∷ past) g.turn.serial ≡ turn_of g.stage) same
       (turns t ∙ ap (λ b. if b then turn_now else turn past t) (eq-eqb t t refl) ∙ stage_is)))
       (λ u held e is.
       (let differs = ne_eqb t held.turn.serial
@@ -107,7 +109,7 @@ module _ (setting : ℕ) (plan : List Bool) (crew : Crew) (past : List Moment) (
       ∙ ap (λ b. if b then turn_now else turn past held.turn.serial) differs))
 
   -- the job in a hand is elsewhere in its turn
-  acts : (v : ℕ) (old new : Held) (pool : JobPool) (last : Moment)
+  acts : (v : ℕ) (old new : JobInHand) (pool : JobPool) (last : Moment)
       → hand_at crew.hands v ≡ Holds old → new.turn ≡ old.turn
       → ((u : ℕ) → is_there (last ∷ past) u ≡ is_there past u)
       → ((u : ℕ) → hand (last ∷ past) u ≡ hand past u)
@@ -122,12 +124,12 @@ module _ (setting : ℕ) (plan : List Bool) (crew : Crew) (past : List Moment) (
       )
       (λ u e. (there u, job u))
       (λ held is. (let alike : new ≡ held = cc in
-      subst (λ (g : Held). turn (last ∷ past) g.turn.serial ≡ turn_of g.stage) alike
+      subst (λ (g : JobInHand). turn (last ∷ past) g.turn.serial ≡ turn_of g.stage) alike
       (ap (λ (n : JobNumber). turn (last ∷ past) n.serial) same ∙ own_turn)))
       (λ u held e is. other_turns held.turn.serial (other_job v u old held e at is))
 
   -- a turn ends, and its worker is free
-  ends : (v : ℕ) (old : Held) (how : Standing) (pass : WorkerPass) (pool : JobPool)
+  ends : (v : ℕ) (old : JobInHand) (how : Standing) (pass : WorkerPass) (pool : JobPool)
       → hand_at crew.hands v ≡ Holds old
       → Handed (record { pool = pool; hands = with_hand crew.hands v (Free pass) })
       (now (Worker v) (Some old.turn.serial) (Ended old.turn.serial how) no_growth ∷ past)
@@ -157,7 +159,7 @@ module _ (setting : ℕ) (plan : List Bool) (crew : Crew) (past : List Moment) (
       }
 
   -- a job in a hand acts
-  works : (v : ℕ) (held : Held) (act : Act)
+  works : (v : ℕ) (held : JobInHand) (act : Act)
       → hand_at crew.hands v ≡ Holds held → may_act held.stage act ≡ true
       → Handed (after crew (Works v held act)) (moment_of crew (Works v held act) step owner ∷ past)
   works v held act at_hand may =
@@ -187,7 +189,8 @@ module _ (setting : ℕ) (plan : List Bool) (crew : Crew) (past : List Moment) (
       before : turn past t ≡ turn_of held.stage
       before = h.tied.handed.turn_is v held at_hand
 
-      gave_up : (w : HolderWaker) (st : Stage) → HasGivenUp ≡ turn_of (stage_after (GaveUp w) st)
+      gave_up : (w : HolderWaker) (st : TurnStage)
+          → HasGivenUp ≡ turn_of (stage_after (GaveUp w) st)
       gave_up w st = grind arith
 
   -- ---- every move

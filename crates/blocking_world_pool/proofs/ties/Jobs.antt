@@ -6,7 +6,7 @@ use Rattle.std.specs.FinMap.{get, remove}
 use Rattle.blocking_world_pool.proofs.Types.{Stay, Stop, Woke, Entered, Marked, Nothing, Standing}
 use Rattle.blocking_world_pool.proofs.Types.{Done, Dropped, Parked, Queued, Running, WorkerPass}
 use Rattle.blocking_world_pool.proofs.Types.{Act, JobCancelled, JobWoken, Moment, Party, Worker}
-use Rattle.blocking_world_pool.proofs.Types.{Step, Holds, Held, Ticket}
+use Rattle.blocking_world_pool.proofs.Types.{Step, Holds, JobInHand, Ticket}
 use Rattle.blocking_world_pool.proofs.Words.{Growth, JobNumber, Job as Entry, new_job}
 use Rattle.blocking_world_pool.proofs.Words.{entry_after_take, entry_after_requeue}
 use Rattle.blocking_world_pool.proofs.Words.{entry_after_park, entry_after_wake, entry_after_cancel}
@@ -63,7 +63,7 @@ module _ (setting : ℕ) (plan : List Bool) (crew : Crew) (past : List Moment) (
       (IsPlanned plan) turn ticket to_drop growth pool may.1)))
       (λ other. h.tied.filed s))
 
-  ended_filed : (v : ℕ) (held : Held) (pass : WorkerPass) (how : Standing) (s : ℕ)
+  ended_filed : (v : ℕ) (held : JobInHand) (pass : WorkerPass) (how : Standing) (s : ℕ)
       → May (IsPlanned plan) crew (EndsTurn v held pass)
       → ((wake cancel mark : Bool) → AbsentAs (Some how) wake cancel mark true)
       → FiledAs (get (remove crew.pool.jobs held.turn.serial) s)
@@ -85,7 +85,8 @@ module _ (setting : ℕ) (plan : List Bool) (crew : Crew) (past : List Moment) (
       (is_marked past s) (has_ended past s)
   stands_as t s how becomes filed = grind arith
 
-  parked_here : (v : ℕ) (held : Held) (ticket : Ticket) (s : ℕ) → hand_at crew.hands v ≡ Holds held
+  parked_here : (v : ℕ) (held : JobInHand) (ticket : Ticket) (s : ℕ)
+      → hand_at crew.hands v ≡ Holds held
       → ticket.is_marked ≡ is_marked past held.turn.serial → held.turn.serial ≡ s
       → FiledAs (option_map (entry_after_park ticket) (get crew.pool.jobs s)) (Some Parked)
       (is_woken past s) (is_cancelled past s) (is_marked past s) (has_ended past s)

@@ -7,7 +7,7 @@ use Rattle.std.specs.FinMap.{get}
 use Rattle.std.proofs.lemmas.Bool.{ne_eqb, cases_eq}
 use Rattle.std.proofs.lemmas.Bool.Decides.{nat_tests}
 use Rattle.blocking_world_pool.proofs.Types.{Woke, Standing, Done, Dropped, Queued, Running, Act}
-use Rattle.blocking_world_pool.proofs.Types.{Accepted, Moment, Holds, Held, Ticket}
+use Rattle.blocking_world_pool.proofs.Types.{Accepted, Moment, Holds, JobInHand, Ticket}
 use Rattle.blocking_world_pool.proofs.Words.{Growth, JobNumber, one_if, ready, is_running_job}
 use Rattle.blocking_world_pool.proofs.Words.{standing_of, is_in, without, accepted_by}
 use Rattle.blocking_world_pool.proofs.Words.{accepted_jobs, accepts, newcomer, holder, standing}
@@ -96,20 +96,20 @@ module _ (setting : ℕ) (plan : List Bool) (crew : Crew) (past : List Moment)
   met answer number done dropped placed = grind arith
 
   -- the job in a hand runs
-  pub held_here : (v : ℕ) (held : Held) → hand_at crew.hands v ≡ Holds held
+  pub held_here : (v : ℕ) (held : JobInHand) → hand_at crew.hands v ≡ Holds held
       → is_running_job (get crew.pool.jobs held.turn.serial) ≡ true
   held_here v held at =
       runs_at held.turn.place (get crew.pool.jobs held.turn.serial) (h.ready.runs v held at)
 
   -- and was seen to run
-  pub held_runs : (v : ℕ) (held : Held) → hand_at crew.hands v ≡ Holds held
+  pub held_runs : (v : ℕ) (held : JobInHand) → hand_at crew.hands v ≡ Holds held
       → standing past held.turn.serial ≡ Some Running
   held_runs v held at =
       filed_runs (get crew.pool.jobs held.turn.serial) (standing past held.turn.serial) _ _ _ _
       (h.tied.filed held.turn.serial) (held_here v held at)
 
   -- so it is among the running jobs, once
-  pub held_once : (v : ℕ) (held : Held) → hand_at crew.hands v ≡ Holds held
+  pub held_once : (v : ℕ) (held : JobInHand) → hand_at crew.hands v ≡ Holds held
       → length (without held.turn.serial (running past)) + 1 ≡ length (running past)
   held_once v held at =
       let s = held.turn.serial in

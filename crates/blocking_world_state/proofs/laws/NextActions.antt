@@ -3,7 +3,8 @@
 use Rattle.std.proofs.Common.{◌≡◌, ⊎_elim, ℕ, ◌≤◌, List, [], length, Bool, true, false, refl, sym}
 use Rattle.std.proofs.Common.{ap, ◌∙◌, subst, Option, Some, None, slice_get, is_some, arith}
 use Rattle.std.proofs.lemmas.Option.{slice_get_cases}
-use Rattle.blocking_world_state.proofs.Types.{Running, Act, Moment, Hand, Holds, Held, Stage}
+use Rattle.blocking_world_state.proofs.Types.{Running, Act, Moment, Hand}
+use Rattle.blocking_world_state.proofs.Types.{Holds, JobInHand, TurnStage}
 use Rattle.blocking_world_state.proofs.Types.{SessionJob, Core, Row}
 use Rattle.blocking_world_state.proofs.Words.{next_of_job, is_asking, is_over, has_given_up, holder}
 use Rattle.blocking_world_state.proofs.Words.{events, acts_of, cut, is_there, kind_by, next_in_turn}
@@ -14,7 +15,7 @@ use Rattle.blocking_world_state.proofs.Words.{next_in, next_at, done_by, done_in
 use Rattle.blocking_world_state.proofs.Words.{action_of, is_at_first, call_step, session_step}
 use Rattle.blocking_world_state.proofs.Words.{call_done, session_done, done, CoreAs, PlaceAs}
 use Rattle.blocking_world_state.proofs.Words.{GaveAs, Tied}
-use Rattle.blocking_world_pool.specs.declared.hand.Stage.TheVariants as stage
+use Rattle.blocking_world_pool.specs.declared.hand.TurnStage.TheVariants as stage
 use Rattle.blocking_world_holders.specs.Calls as calls
 use Rattle.blocking_world_holders.specs.SessionJobs as jobs
 use Rattle.blocking_world_state.specs.Rows.{next_of}
@@ -33,14 +34,14 @@ job_next (core.Call k call) acts tie stays = grind arith
 job_next (core.Session h job) acts tie stays = sym (job_action_is job acts (tie stays))
 
 -- and so its worker, by where the job is in its turn
-stage_next : (at : Stage) (c : Core) (acts : List Act) → CoreAs c acts
+stage_next : (at : TurnStage) (c : Core) (acts : List Act) → CoreAs c acts
     → PlaceAs (Some Running) (turn_of at) (is_at_first c) acts → GaveAs at acts
     → next_in_turn (turn_of at) (next_of_job (kind_of c) acts) ≡ next_of at c
 stage_next at c acts tie place gave = grind (arith, job_next)
 
 -- ---- what is its job's own
 
-call_some : (at : Stage) (k : ℕ) (call : calls.Progress) (all : List Task) (row : List Owner)
+call_some : (at : TurnStage) (k : ℕ) (call : calls.Progress) (all : List Task) (row : List Owner)
     (task : Task) → is_some (call_done k call at all row (Some task) (call_step at call))
     ≡ is_job_action (next_of at (core.Call k call))
 call_some at k call all row task = grind arith
@@ -52,7 +53,7 @@ worked_own : (job : SessionJob) (owner : Owner) → (is_asking (jobs.action_of j
 worked_own job owner some = grind arith
 
 -- and so by where the job is in its turn
-session_some : (at : Stage)
+session_some : (at : TurnStage)
     (h : ℕ) (p : SessionJob) (all : List Task) (row : List Owner) (owner : Owner) → (at ≡ stage.Runs
     → is_some (worked p owner) ≡ is_job_action (next_in_turn GoesOn (jobs.action_of p)))
     → is_some (session_done h p all row (Some owner) (session_step at p))
@@ -84,7 +85,7 @@ module _ (setting : ℕ) (plan : List Bool) (w : Parts) (past : List Moment)
       let job = found.0 in
       let here = found.1 in
       let s = job.held.turn.serial in
-      ap (λ j. next_with j past) (tie.1 ∙ ap (λ (h : Held). Some h.turn.serial) (sym found.2))
+      ap (λ j. next_with j past) (tie.1 ∙ ap (λ (h : JobInHand). Some h.turn.serial) (sym found.2))
       ∙ ap (λ kind. next_in_turn (turn past s) (next_of_job kind (acts_of s (events past))))
       (kind_is s job.row here.has_row)
       ∙ ap (λ u. next_in_turn u (next_of_job (kind_of job.row.core) (acts_of s (events past))))

@@ -5,9 +5,10 @@ use Rattle.std.proofs.Common.{slice_get, slice_set, is_some, IfSome, ◌<◌, Re
 use Rattle.std.proofs.lemmas.Bool.Decides.{nat_tests}
 use Rattle.blocking_world_state.proofs.Types.{Refusal, Stay, Stop, Act, Arrived, Asked, Made}
 use Rattle.blocking_world_state.proofs.Types.{NoAction, Event, Moment, Party, ByOwner, Worker}
-use Rattle.blocking_world_state.proofs.Types.{Answer, Step, Arrive, Ask, Copy, End, Late}
+use Rattle.blocking_world_state.proofs.Types.{HandleAnswer, Step, Arrive, Ask, Copy, End, Late}
 use Rattle.blocking_world_state.proofs.Types.{SetClientLimit, SetLimit, Sweep, Take, Wait, TaskCall}
-use Rattle.blocking_world_state.proofs.Types.{Holds, Held, Parking, OwnerNext, OwnerStage, Core}
+use Rattle.blocking_world_state.proofs.Types.{Holds, JobInHand, Parking}
+use Rattle.blocking_world_state.proofs.Types.{OwnerNext, OwnerStage, Core}
 use Rattle.blocking_world_state.proofs.Types.{Row}
 use Rattle.blocking_world_state.proofs.Words.{Growth, JobNumber, arrivals, IsPlanned, holder}
 use Rattle.blocking_world_state.proofs.Words.{as_owner, is_of_pool, is_nothing, is_there}
@@ -87,7 +88,8 @@ noted_next here last number is = grind arith
 owner_holds : (c : Core) → owner_in c ≡ as_owner (Some (party_of c))
 owner_holds c = grind arith
 
-answer_stays : (answer : Answer) (c : Core) → owner_in (core_after_answer answer c) ≡ owner_in c
+answer_stays : (answer : HandleAnswer) (c : Core)
+    → owner_in (core_after_answer answer c) ≡ owner_in c
 answer_stays answer c = grind arith
 
 -- a row that was set for one of the same owner leaves each job its owner
@@ -144,7 +146,7 @@ module _ (setting : ℕ) (plan : List Bool) (w : Parts) (past : List Moment)
       }
 
   -- the worker of a job in a hand has it in hand
-  in_hand_is : (v : ℕ) (held : Held) → hand_at w.crew.hands v ≡ Holds held
+  in_hand_is : (v : ℕ) (held : JobInHand) → hand_at w.crew.hands v ≡ Holds held
       → Some held.turn.serial ≡ hand past v
   in_hand_is v held at = sym
       ((subst (λ h. HandAs h (is_there past v) (hand past v)) at (t.crewed.tied.handed.each v)).1)

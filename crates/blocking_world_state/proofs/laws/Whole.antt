@@ -2,7 +2,8 @@
 use Rattle.std.proofs.Common.{◌≡◌, ◌<◌, ◌≤◌, ℕ, List, [], ◌∷◌, length, Bool, true, refl, sym, ap}
 use Rattle.std.proofs.Common.{◌∙◌, subst, arith, Option, Some, None, ◌||◌, not, is_some, slice_get}
 use Rattle.std.proofs.Common.{Ok}
-use Rattle.blocking_world_state.proofs.Types.{Act, Event, Moment, Party, Step, Job, Holds, Held}
+use Rattle.blocking_world_state.proofs.Types.{Act, Event, Moment, Party}
+use Rattle.blocking_world_state.proofs.Types.{Step, Job, Holds, JobInHand}
 use Rattle.blocking_world_state.proofs.Types.{OwnerNext, Row}
 use Rattle.blocking_world_state.proofs.Words.{IsPlanned, standing, events, is_nothing}
 use Rattle.blocking_world_state.proofs.Words.{acts_of_owner, under_way, is_poll_over, is_job_action}
@@ -254,7 +255,7 @@ first_parts setting = record {
 no_row : (s : ℕ) → row_of [] s ≡ None
 no_row s = grind arith
 
-no_held : (v : ℕ) (held : Held) → hand_at [] v ≡ Holds held → ⊥
+no_held : (v : ℕ) (held : JobInHand) → hand_at [] v ≡ Holds held → ⊥
 no_held v held at = grind arith
 
 -- new parts are lawful

@@ -3,7 +3,7 @@ use Rattle.std.proofs.Common.{◌≡◌, ◌≤◌, ℕ, List, [], ◌∷◌, le
 use Rattle.std.proofs.Common.{◌∙◌, subst, arith, Option, Some, None, slice_get, min, max, Result}
 use Rattle.std.proofs.lemmas.Bool.Decides.{nat_tests}
 use Rattle.std.proofs.lemmas.List.{length-take}
-use Rattle.blocking_world_state.proofs.Types.{Action, Refusal, Act, Event, Step, Stage, Parking}
+use Rattle.blocking_world_state.proofs.Types.{Action, Refusal, Act, Event, Step, TurnStage, Parking}
 use Rattle.blocking_world_state.proofs.Types.{Core}
 use Rattle.blocking_world_state.proofs.Words.{OwnerMachine, Met, drain, JobNumber, is_bare}
 use Rattle.blocking_world_state.proofs.Words.{IsPlanned, added_act, parked_act, act_of_work, Owner}
@@ -13,7 +13,7 @@ use Rattle.blocking_world_state.proofs.Words.{Task, bytes_of, front_at, front_fo
 use Rattle.blocking_world_state.proofs.Words.{Move, step_of, May, CrewMoves, is_own_step, Moves}
 use Rattle.blocking_world_state.proofs.Words.{Parts, call_step_by, call_step, session_step, Done}
 use Rattle.blocking_world_state.proofs.Words.{call_done, session_seen, session_done}
-use Rattle.blocking_world_pool.specs.declared.hand.Stage.TheVariants as turn
+use Rattle.blocking_world_pool.specs.declared.hand.TurnStage.TheVariants as turn
 use Rattle.blocking_world_holders.specs.OwnerSteps as steps
 use Rattle.blocking_world_state.specs.Rows as rows
 use Rattle.blocking_world_state.specs.declared.row.Core.TheVariants as core
@@ -64,7 +64,7 @@ front_of owners (core.Session h job) = front_at (slice_get owners h)
 
 -- what a job of a call does carries nothing, and one of a session finds no more than is at the
 -- front of its pipe
-done_carries : (tasks : List Task) (owners : List Owner) (done : Done) (at : Stage) (c : Core)
+done_carries : (tasks : List Task) (owners : List Owner) (done : Done) (at : TurnStage) (c : Core)
     → rows.done at c tasks owners ≡ Some done → length (bytes_of done.act) ≤ front_of owners c
 done_carries tasks owners done at (core.Call k call) is = by at (slice_get tasks k) is
   where
@@ -72,7 +72,7 @@ done_carries tasks owners done at (core.Call k call) is = by at (slice_get tasks
         (call_step_by next call.number) ≡ Some done → length (bytes_of done.act) ≤ 0
     runs next task is = grind arith
 
-    by : (at : Stage) (o : Option Task) → call_done k call at tasks owners o (call_step at call)
+    by : (at : TurnStage) (o : Option Task) → call_done k call at tasks owners o (call_step at call)
         ≡ Some done → length (bytes_of done.act) ≤ 0
     by at o is = grind arith
 done_carries tasks owners done at (core.Session h job) is = by at (slice_get owners h) is
@@ -88,7 +88,8 @@ done_carries tasks owners done at (core.Session h job) is = by at (slice_get own
     runs owner (Some did) found is = moved (λ (d : Done). length (bytes_of d.act)
         ≤ front_in owner.session) _ done is (works owner did (worked_so job owner did found))
 
-    by : (at : Stage) (o : Option Owner) → session_done h job tasks owners o (session_step at job)
+    by : (at : TurnStage) (o : Option Owner)
+        → session_done h job tasks owners o (session_step at job)
         ≡ Some done → length (bytes_of done.act) ≤ front_at o
     by at None is = absurd cc
     by turn.Runs (Some owner) is = runs owner (worked job owner) refl is

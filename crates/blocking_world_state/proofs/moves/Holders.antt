@@ -2,13 +2,13 @@
 use Rattle.std.proofs.Common.{◌≡◌, ℕ, List, length, refl, sym, ap, ◌∙◌, subst, Option, Some, None}
 use Rattle.std.proofs.Common.{slice_get, slice_set, arith}
 use Rattle.std.proofs.Math.ListN.{length-set}
-use Rattle.blocking_world_state.proofs.Types.{Act, Stage, SessionJob, Core}
+use Rattle.blocking_world_state.proofs.Types.{Act, TurnStage, SessionJob, Core}
 use Rattle.blocking_world_state.proofs.Words.{OwnerStep, act_of_work, owner_after_work}
 use Rattle.blocking_world_state.proofs.Words.{job_after_work, Owner, Worked, worked, TaskStep, Task}
 use Rattle.blocking_world_state.proofs.Words.{call_step, session_step, Done, call_done}
 use Rattle.blocking_world_state.proofs.Words.{session_seen, session_done, done, IsDone, IsActed}
 use Rattle.blocking_world_state.proofs.Words.{IsActedFor}
-use Rattle.blocking_world_pool.specs.declared.hand.Stage.TheVariants as stage
+use Rattle.blocking_world_pool.specs.declared.hand.TurnStage.TheVariants as stage
 use Rattle.blocking_world_holders.specs.Calls as calls
 use Rattle.blocking_world_holders.specs.OwnerSteps as owner_steps
 use Rattle.blocking_world_state.specs.declared.row.Core.TheVariants as core
@@ -17,7 +17,7 @@ use Rattle.blocking_world_state.proofs.moves.SessionActs.{moved}
 
 -- the job of a call
 pub call_acts : (tasks : List Task) (owners : List Owner) (k : ℕ) (call new_call : calls.Progress)
-    (at : Stage) (task new_task : Task) (seen : Option Act) → slice_get tasks k ≡ Some task
+    (at : TurnStage) (task new_task : Task) (seen : Option Act) → slice_get tasks k ≡ Some task
     → IsActed (call_step at call) at call task seen new_call new_task
     → IsDone (done at (core.Call k call) tasks owners) (core.Call k call) tasks owners seen
     (core.Call k new_call) (slice_set tasks k new_task) owners
@@ -25,7 +25,7 @@ call_acts tasks owners k call new_call at task new_task seen found acts = grind 
 
 -- the job of a session
 pub session_acts : (tasks : List Task) (owners : List Owner) (h : ℕ) (read new_read : SessionJob)
-    (at : Stage) (owner new_owner : Owner) (seen : Option Act) → slice_get owners h ≡ Some owner
+    (at : TurnStage) (owner new_owner : Owner) (seen : Option Act) → slice_get owners h ≡ Some owner
     → IsActedFor (session_step at read) read owner seen new_read new_owner
     → IsDone (done at (core.Session h read) tasks owners) (core.Session h read) tasks owners seen
     (core.Session h new_read) tasks (slice_set owners h new_owner)
@@ -43,7 +43,7 @@ session_acts tasks owners h read new_read at owner new_owner seen found acts =
       ap (slice_set owners h) stays ∙ set_same owners h owner found,
     )
 
-    by : (at : Stage) → IsActedFor (session_step at read) read owner seen new_read new_owner
+    by : (at : TurnStage) → IsActedFor (session_step at read) read owner seen new_read new_owner
         → IsDone (session_done h read tasks owners (Some owner) (session_step at read))
         (core.Session h read) tasks owners seen (core.Session h new_read) tasks
         (slice_set owners h new_owner)
@@ -82,7 +82,7 @@ abbrev SameLengths : List Task → List Owner → Done → Type 0
 SameLengths tasks owners did =
     (length did.tasks ≡ length tasks) × (length did.owners ≡ length owners)
 
-done_lengths : (at : Stage) (c : Core) (tasks : List Task) (owners : List Owner) (did : Done)
+done_lengths : (at : TurnStage) (c : Core) (tasks : List Task) (owners : List Owner) (did : Done)
     → done at c tasks owners ≡ Some did → SameLengths tasks owners did
 done_lengths at (core.Call k call) tasks owners did is =
     by (slice_get tasks k) (call_step at call) is
@@ -106,7 +106,7 @@ done_lengths at (core.Session h read) tasks owners did is =
     by (Some owner) (Some step) is = seen owner step (owner_steps.act_of step owner) is
     by _ _ is = absurd cc
 
-pub same_lengths : (at : Stage) (c : Core) (tasks : List Task) (owners : List Owner)
+pub same_lengths : (at : TurnStage) (c : Core) (tasks : List Task) (owners : List Owner)
     (act : Option Act) (new : Core) (new_tasks : List Task) (new_owners : List Owner)
     → IsDone (done at c tasks owners) c tasks owners act new new_tasks new_owners
     → (length new_tasks ≡ length tasks) × (length new_owners ≡ length owners)

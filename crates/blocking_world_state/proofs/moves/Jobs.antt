@@ -3,8 +3,9 @@ use Rattle.std.proofs.Common.{◌≡◌, ℕ, ◌-◌, ◌<◌, List, length, Bo
 use Rattle.std.proofs.Common.{subst, Option, Some, None, slice_index_or, slice_get, slice_set}
 use Rattle.std.proofs.Common.{option_map, is_some, arith}
 use Rattle.std.proofs.lemmas.Option.{slice_get_within, slice_get_read}
-use Rattle.blocking_world_state.proofs.Types.{Act, Answered, Event, Worker, Answer, End, Io, Job}
-use Rattle.blocking_world_state.proofs.Types.{Hand, Holds, Stage, Core, Row}
+use Rattle.blocking_world_state.proofs.Types.{Act, Answered, Event, Worker}
+use Rattle.blocking_world_state.proofs.Types.{HandleAnswer, End, Io, Job}
+use Rattle.blocking_world_state.proofs.Types.{Hand, Holds, TurnStage, Core, Row}
 use Rattle.blocking_world_state.proofs.Words.{is_answered_action, is_turn_end, Crew, may_end}
 use Rattle.blocking_world_state.proofs.Words.{hand_at, in_hand_of, next_start, nothing, NeverAsked}
 use Rattle.blocking_world_state.proofs.Words.{Owner, Task, Idles, Works, IsAnswered, Parks, IsDue}
@@ -13,7 +14,7 @@ use Rattle.blocking_world_state.proofs.Words.{job_at, places_of, next_in, next_a
 use Rattle.blocking_world_state.proofs.Words.{let_go_of, Done, done, IsDone, core_after_answer}
 use Rattle.blocking_world_pool.specs.Moves as crew
 use Rattle.blocking_world_pool.specs.declared.crew.InHand as crew_hand
-use Rattle.blocking_world_pool.specs.declared.hand.Stage.TheVariants as stage
+use Rattle.blocking_world_pool.specs.declared.hand.TurnStage.TheVariants as stage
 use Rattle.blocking_world_state.specs.Rows.{next_of}
 use Rattle.blocking_world_state.specs.declared.parts.JobAt.{JobAt}
 use Rattle.blocking_pool.proofs.Places.{set_same}
@@ -174,7 +175,7 @@ job_rests w v at old core tasks owners e is a event =
 
 -- ---- it is answered, and it parks
 
-pub io_does : (w : Parts) (v : ℕ) (answer : Answer) (at : JobAt) (old : Row)
+pub io_does : (w : Parts) (v : ℕ) (answer : HandleAnswer) (at : JobAt) (old : Row)
     (core : Core) (e : Event) (new : Crew) (is : Some at ≡ option_map places_of (job_at w v))
     → old ≡ slice_index_or w.rows at.row old
     → is_answered_action (next_of at.stage old.core) answer ≡ true
@@ -228,7 +229,7 @@ parked w v at old mark e new is value waits mark_is does =
 
 -- ---- its turn ends
 
-ends_here : (at : Stage) (c : Core) → is_turn_end (next_of at c) ≡ true → (at ≡ stage.Waits → ⊥)
+ends_here : (at : TurnStage) (c : Core) → is_turn_end (next_of at c) ≡ true → (at ≡ stage.Waits → ⊥)
     → may_end at ≡ true
 ends_here at c ends other = grind arith
 

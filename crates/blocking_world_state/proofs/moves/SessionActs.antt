@@ -31,7 +31,7 @@ use Rattle.blocking_core.specs.declared.job.seek.SeekAction.TheVariants as seek
 use Rattle.blocking_core.specs.declared.job.write.WriteAction.TheVariants as write
 use Rattle.blocking_world_laws.specs.Places.{seen_peek, seen_put, seen_room}
 use Rattle.blocking_world_laws.specs.declared.event.HolderWaker.{HolderWaker}
-use Rattle.blocking_world_pool.specs.declared.hand.Stage.TheVariants as stage
+use Rattle.blocking_world_pool.specs.declared.hand.TurnStage.TheVariants as stage
 use Rattle.blocking_world_holders.specs.Ops as operations
 use Rattle.blocking_world_holders.specs.Reads as reads
 use Rattle.blocking_world_holders.specs.Seeks as seeks

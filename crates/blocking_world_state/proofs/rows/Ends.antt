@@ -5,8 +5,9 @@ use Rattle.std.proofs.Common.{arith}
 use Rattle.std.proofs.lemmas.Bool.{or_right}
 use Rattle.blocking_world_state.proofs.Types.{Action, Running, Act, Answered, Drained, Finished}
 use Rattle.blocking_world_state.proofs.Types.{GaveUp, JobClosed, Lost, Peeked, Put, ResultPut}
-use Rattle.blocking_world_state.proofs.Types.{RoomFree, RoomShut, TakenOut, Event, Moment, Answer}
-use Rattle.blocking_world_state.proofs.Types.{Holds, Held, Stage, SessionJob, Core}
+use Rattle.blocking_world_state.proofs.Types.{RoomFree, RoomShut, TakenOut}
+use Rattle.blocking_world_state.proofs.Types.{Event, Moment, HandleAnswer}
+use Rattle.blocking_world_state.proofs.Types.{Holds, JobInHand, TurnStage, SessionJob, Core}
 use Rattle.blocking_world_state.proofs.Words.{IsPlanned, Kind, Calling, JobAction, Over}
 use Rattle.blocking_world_state.proofs.Words.{next_after_answer, next_but_wake, wake_first, is_over}
 use Rattle.blocking_world_state.proofs.Words.{has_finished, ends_for_good, events, acts_of}
@@ -25,7 +26,8 @@ use Rattle.blocking_world_state.proofs.ties.Jobs.{hand_job, job_place, next_here
 -- ---- a job that has nothing left to do
 
 -- after an answer there is something to do
-not_answered : (before : JobAction) (answer : Answer) → next_after_answer before answer ≡ Over → ⊥
+not_answered : (before : JobAction) (answer : HandleAnswer) → next_after_answer before answer ≡ Over
+    → ⊥
 not_answered before answer is = grind arith
 
 -- after a put there is more to do
@@ -74,7 +76,7 @@ session_over job acts ends so =
     ∙ sym (ap is_over (job_action_is job acts so)) ∙ end_over (action_of job) ends))
 
 -- a job whose turn may end, with nothing left to do, is over
-over_here : (at : Stage) (c : Core) (acts : List Act)
+over_here : (at : TurnStage) (c : Core) (acts : List Act)
     → may_end at ≡ true → is_turn_end (next_of at c) ≡ true → CoreAs c acts
     → PlaceAs (Some Running) (turn_of at) (is_at_first c) acts → IsOver acts
 over_here at c acts may ends far place = grind (arith, call_over, session_over, or_right)
@@ -84,7 +86,7 @@ over_here at c acts may ends far place = grind (arith, call_over, session_over, 
 -- A crew's call that is a step ends a job for good only at the end of its turn.
 record EndsFor (crew_now : Crew) (call : crew.Call) (s : ℕ) : Type 0 where
   worker : ℕ
-  held : Held
+  held : JobInHand
   at : hand_at crew_now.hands worker ≡ Holds held
   may : may_end held.stage ≡ true
   this : held.turn.serial ≡ s
@@ -111,9 +113,9 @@ pass_over setting plan w past t call new e pass is_due does s ends =
     let due_end : IsDue w (crew.End end.worker) =
     subst (IsDue w) (does.call_is ∙ end.call_is) is_due in
     subst (λ m. IsOver (acts_of m (events past)))
-    (ap (λ (h : Held). h.turn.serial) found.2 ∙ end.this)
+    (ap (λ (h : JobInHand). h.turn.serial) found.2 ∙ end.this)
     (over_here job.held.stage job.row.core (acts_of n (events past))
-    (ap (λ (h : Held). may_end h.stage) found.2 ∙ end.may)
+    (ap (λ (h : JobInHand). may_end h.stage) found.2 ∙ end.may)
     (sym (ap is_turn_end (next_here w end.worker job found.1)) ∙ due_end.0)
     (t.rowed.each n job.row found.1.has_row).core
     (job_place setting plan w past t end.worker job found.1))

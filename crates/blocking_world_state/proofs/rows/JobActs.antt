@@ -3,7 +3,8 @@
 use Rattle.std.proofs.Common.{◌≡◌, ℕ, List, [], ◌∷◌, Bool, true, false, refl, sym, ap, ◌∙◌, subst}
 use Rattle.std.proofs.Common.{Option, Some, None, if◌then◌else◌, ◌&&◌, slice_get, arith}
 use Rattle.blocking_world_state.proofs.Types.{Action, Standing, Queued, Running, Act, Answered}
-use Rattle.blocking_world_state.proofs.Types.{JobParked, Moment, Answer, Stage, SessionJob, Core}
+use Rattle.blocking_world_state.proofs.Types.{JobParked, Moment, HandleAnswer}
+use Rattle.blocking_world_state.proofs.Types.{TurnStage, SessionJob, Core}
 use Rattle.blocking_world_state.proofs.Words.{next_but_wake, next_of_job, is_answer, has_given_up}
 use Rattle.blocking_world_state.proofs.Words.{accepted_by, holder, ends_for_good, sweeps, stands_by}
 use Rattle.blocking_world_state.proofs.Words.{is_parked, events, is_of_pool, is_nothing, acts_of}
@@ -14,7 +15,7 @@ use Rattle.blocking_world_state.proofs.Words.{kind_of as kind_in_row, call_actio
 use Rattle.blocking_world_state.proofs.Words.{is_first, is_at_first, call_step, session_step, Done}
 use Rattle.blocking_world_state.proofs.Words.{call_done, session_seen, session_done, done}
 use Rattle.blocking_world_state.proofs.Words.{core_after_answer, CoreAs, PlaceAs, GaveAs, Tied}
-use Rattle.blocking_world_pool.specs.declared.hand.Stage.TheVariants as stage
+use Rattle.blocking_world_pool.specs.declared.hand.TurnStage.TheVariants as stage
 use Rattle.blocking_world_holders.specs.Calls as calls
 use Rattle.blocking_world_holders.specs.OwnerSteps as owners
 use Rattle.blocking_world_holders.specs.SessionJobs as jobs
@@ -47,17 +48,18 @@ Goes act = (s : ℕ) (first : Bool) (acts : List Act)
     → PlaceAs (Some Running) (turn_by act true s GoesOn) first (act ∷ acts)
 
 -- an act that it may do is its own
-pub own_act : (at : Stage) (act : Act) → may_act at act ≡ true → IsOwnAct act
+pub own_act : (at : TurnStage) (act : Act) → may_act at act ≡ true → IsOwnAct act
 own_act at act fits = grind arith
 
-pub place_acted : (at : Stage) (act : Act) (s : ℕ) (before first : Bool) (acts : List Act)
+pub place_acted : (at : TurnStage) (act : Act) (s : ℕ) (before first : Bool) (acts : List Act)
     → may_act at act ≡ true → (act ≡ JobParked → first ≡ true)
     → PlaceAs (Some Running) (turn_of at) before acts
     → PlaceAs (Some Running) (turn_by act true s (turn_of at)) first (act ∷ acts)
 place_acted at act s before first acts fits parks place = grind arith
 
 -- and what it has left to do, once it gave up
-pub gave_acted : (at : Stage) (act : Act) (acts : List Act) → may_act at act ≡ true → GaveAs at acts
+pub gave_acted : (at : TurnStage) (act : Act) (acts : List Act) → may_act at act ≡ true
+    → GaveAs at acts
     → GaveAs (stage_after act at) (act ∷ acts)
 gave_acted at act acts fits gave = grind arith
 
@@ -77,7 +79,7 @@ LeavesSo old acts did = Leaves old did.core did.act acts
 abbrev call_by_parts : Action → ℕ → calls.Progress
 call_by_parts next n = record { next = next; number = n }
 
-call_leaves : (at : Stage) (k : ℕ) (next : Action)
+call_leaves : (at : TurnStage) (k : ℕ) (next : Action)
     (n : ℕ) (all : List Task) (row : List Owner) (task : Option Task) (did : Done) (acts : List Act)
     → (has_given_up acts ≡ false → RanAs next n acts)
     → PlaceAs (Some Running) (turn_of at) (is_first (call_action next)) acts → call_done k
@@ -99,7 +101,7 @@ module _ (h : ℕ) (job : SessionJob) (owner : Owner) (did : Done)
       (kind_of done.job) (act ∷ acts)) parks ∙ ap (λ k. next_but_wake k acts) kind)
       ∙ first_of_table job acts tied (first_where_parked job owner done is parks)
 
-  session_leaves : (at : Stage) (all : List Task) (row : List Owner)
+  session_leaves : (at : TurnStage) (all : List Task) (row : List Owner)
       → (has_given_up acts ≡ false → JobAs job acts)
       → PlaceAs (Some Running) (turn_of at) (is_first (jobs.action_of job)) acts
       → session_done h job all row (Some owner) (session_step at job) ≡ Some did
@@ -141,7 +143,8 @@ module _ (h : ℕ) (job : SessionJob) (owner : Owner) (did : Done)
 
 -- a job that acts by itself
 pub done_leaves : (setting : ℕ) (plan : List Bool) (w : Parts)
-    (past : List Moment) (t : Tied setting plan w past) (at : Stage) (s : ℕ) (c : Core) (did : Done)
+    (past : List Moment) (t : Tied setting plan w past) (at : TurnStage) (s : ℕ) (c : Core)
+    (did : Done)
     → CoreAs c (acts_of s (events past))
     → PlaceAs (Some Running) (turn_of at) (is_at_first c) (acts_of s (events past))
     → holder past s ≡ Some (party_of c) → done at c w.tasks w.owners ≡ Some did
@@ -161,14 +164,14 @@ done_leaves setting plan w past t at s (core.Session h job) did ran place held i
         (acts_of s (events past)) owner done tied works) at w.tasks w.owners ran place is
 
 -- a job that is answered
-call_answered : (k : ℕ) (next : Action) (n : ℕ) (answer : Answer) (acts : List Act)
+call_answered : (k : ℕ) (next : Action) (n : ℕ) (answer : HandleAnswer) (acts : List Act)
     → (has_given_up acts ≡ false → RanAs next n acts) → has_given_up acts ≡ false
     → is_answer (call_action next) answer ≡ true
     → Leaves (core.Call k (call_by_parts next n))
     (core_after_answer answer (core.Call k (call_by_parts next n))) (Answered answer) acts
 call_answered k next n answer acts ran going is = grind arith
 
-pub answer_leaves : (c : Core) (answer : Answer) (acts : List Act)
+pub answer_leaves : (c : Core) (answer : HandleAnswer) (acts : List Act)
     → CoreAs c acts → has_given_up acts ≡ false
     → is_answered_action (next_in_turn GoesOn (action_of c)) answer ≡ true
     → Leaves c (core_after_answer answer c) (Answered answer) acts

@@ -4,7 +4,8 @@ use Rattle.std.proofs.Common.{refl, sym, ap, ◌∙◌, subst, Some, if◌then�
 use Rattle.std.proofs.lemmas.Bool.{eqb-true, eqb-false, eq-eqb, ne_eqb}
 use Rattle.std.proofs.Math.ListN.{length-set}
 use Rattle.blocking_world_state.proofs.Types.{Queued, Running, Act, Answered, Event, Moment}
-use Rattle.blocking_world_state.proofs.Types.{ByOwner, ByTask, Worker, Answer, Step, Holds, Held}
+use Rattle.blocking_world_state.proofs.Types.{ByOwner, ByTask, Worker, HandleAnswer}
+use Rattle.blocking_world_state.proofs.Types.{Step, Holds, JobInHand}
 use Rattle.blocking_world_state.proofs.Types.{Core, Row}
 use Rattle.blocking_world_state.proofs.Words.{JobNumber, IsPlanned, accepted_by, accepted_jobs}
 use Rattle.blocking_world_state.proofs.Words.{holder, ends_for_good, is_marked, sweeps, stands_by}
@@ -141,7 +142,7 @@ module _ (setting : ℕ) (plan : List Bool) (w : Parts) (past : List Moment)
       }
 
   -- the job in a hand
-  hands_now : (u : ℕ) (b : Bool) → (v == u) ≡ b → (other : Held) → hand_at new.crew.hands u
+  hands_now : (u : ℕ) (b : Bool) → (v == u) ≡ b → (other : JobInHand) → hand_at new.crew.hands u
       ≡ Holds other → GaveAs other.stage (acts_of other.turn.serial (events (now ∷ past)))
   hands_now u b is other at =
       by b is
@@ -155,7 +156,8 @@ module _ (setting : ℕ) (plan : List Bool) (w : Parts) (past : List Moment)
           ≡ Holds other → GaveAs other.stage (acts_of other.turn.serial (events (now ∷ past)))
       by true is held =
           let one : held_after_act job.held act ≡ other = cc in
-          subst (λ (x : Held). GaveAs x.stage (acts_of x.turn.serial (events (now ∷ past)))) one
+          subst (λ (x : JobInHand). GaveAs x.stage
+          (acts_of x.turn.serial (events (now ∷ past)))) one
           (subst (GaveAs (stage_after act job.held.stage))
           (sym acts_mine) (gave_acted job.held.stage act (acts_of s (events past)) k.fits
           (t.rowed.in_hand v job.held k.here.holds)))
@@ -227,7 +229,8 @@ module _ (setting : ℕ) (plan : List Bool) (w : Parts) (past : List Moment)
       (rw (tasks, owners) (done_numbers w job.held.stage job.row.core did may.1))
 
   -- a job is answered
-  pub rows_answered : (v : ℕ) (job : InHand) (answer : Answer) → May w (IsAnswered v job answer)
+  pub rows_answered : (v : ℕ) (job : InHand) (answer : HandleAnswer)
+      → May w (IsAnswered v job answer)
       → CrewMoves (IsPlanned plan) (IsAnswered v job answer) w e new
       → new.rows ≡ rows_after w (IsAnswered v job answer)
       → new.tasks ≡ tasks_after w (IsAnswered v job answer)

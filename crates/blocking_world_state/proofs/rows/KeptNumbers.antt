@@ -1,6 +1,6 @@
 -- Whatever the job in a hand does, each task, and the last session of each owner, keeps its number.
 use Rattle.std.proofs.Common.{◌≡◌, ℕ, List, [], refl, sym, subst₂, Some, slice_get, arith}
-use Rattle.blocking_world_state.proofs.Types.{Stage, SessionJob, Core}
+use Rattle.blocking_world_state.proofs.Types.{TurnStage, SessionJob, Core}
 use Rattle.blocking_world_state.proofs.Words.{OwnerStep, Owner, number_of, TaskStep, Task, Parts}
 use Rattle.blocking_world_state.proofs.Words.{session_step, Done, done}
 use Rattle.blocking_world_holders.specs.OwnerSteps as owners
@@ -30,11 +30,12 @@ step_number : (step : TaskStep) (task : Task) → task.number ≡ (tasks.task_af
 step_number step task = grind arith
 
 -- and no session begins by what a job does
-none_brought : (at : Stage) (job : SessionJob) (step : OwnerStep) → session_step at job ≡ Some step
+none_brought : (at : TurnStage) (job : SessionJob) (step : OwnerStep)
+    → session_step at job ≡ Some step
     → brought step ≡ []
 none_brought at job step is = grind arith
 
-pub done_numbers : (w : Parts) (at : Stage) (c : Core) (did : Done)
+pub done_numbers : (w : Parts) (at : TurnStage) (c : Core) (did : Done)
     → done at c w.tasks w.owners ≡ Some did → KeepNumbers w.tasks w.owners did.tasks did.owners
 done_numbers w at (core.Call k call) did is =
     let a = call_acts w at k call did is in

@@ -5,7 +5,8 @@ use Rattle.std.proofs.Common.{if◌then◌else◌, Option, None, slice_get, slic
 use Rattle.std.proofs.lemmas.Bool.{eqb-true, eq-eqb}
 use Rattle.std.proofs.lemmas.Option.{slice_get_within}
 use Rattle.blocking_world_state.proofs.Types.{Queued, Accepted, Event, Moment, ByOwner, Pool}
-use Rattle.blocking_world_state.proofs.Types.{ByTask, HandleCall, Holds, Held, OwnerStage, Core}
+use Rattle.blocking_world_state.proofs.Types.{ByTask, HandleCall, Holds}
+use Rattle.blocking_world_state.proofs.Types.{JobInHand, OwnerStage, Core}
 use Rattle.blocking_world_state.proofs.Types.{Row}
 use Rattle.blocking_world_state.proofs.Words.{Pipe, JobNumber, IsPlanned, Kind, accepted_by}
 use Rattle.blocking_world_state.proofs.Words.{accepted_jobs, accepts, newcomer, holder}
@@ -52,7 +53,7 @@ record IsBorn (w new : Parts) (past : List Moment) (now : Moment) (row : Row) : 
   core : CoreAs row.core []
   kind : (s : ℕ) → (row.number.serial == s) ≡ true
       → kind_by (Some (party_of row.core)) (now ∷ past) s ≡ kind_of row.core
-  hands : (v : ℕ) (held : Held) → hand_at new.crew.hands v ≡ Holds held
+  hands : (v : ℕ) (held : JobInHand) → hand_at new.crew.hands v ≡ Holds held
       → IsOldOrBegins w.crew.hands v held
   rows : new.rows ≡ w.rows ++ row ∷ []
   tasks : (k : ℕ) (task : Task)

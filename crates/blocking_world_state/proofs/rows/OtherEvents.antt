@@ -1,7 +1,8 @@
 -- What keeps the rows: an event that is no act of a job, and accepts none.
 use Rattle.std.proofs.Common.{◌≡◌, ⊎_elim, ℕ, List, [], ◌∷◌, length, Bool, true, false, refl, sym}
 use Rattle.std.proofs.Common.{ap, ◌∙◌, subst, Some, slice_get, arith}
-use Rattle.blocking_world_state.proofs.Types.{Act, Moment, ByOwner, ByTask, Holds, Held, Core, Row}
+use Rattle.blocking_world_state.proofs.Types.{Act, Moment, ByOwner, ByTask}
+use Rattle.blocking_world_state.proofs.Types.{Holds, JobInHand, Core, Row}
 use Rattle.blocking_world_state.proofs.Words.{JobNumber, accepted_by, accepted_jobs, accepts}
 use Rattle.blocking_world_state.proofs.Words.{holder, ends_for_good, standing, events, joined}
 use Rattle.blocking_world_state.proofs.Words.{is_of_job, acts_of, kind_by, turn, hand_at}
@@ -56,7 +57,7 @@ pub record KeepsRows (w new : Parts) (past : List Moment) (now : Moment) : Type 
   pub owners : (h : ℕ) (owner : Owner) (number : JobNumber) → slice_get new.owners h ≡ Some owner
       → number_of owner ≡ Some number
       → (old : Owner) × (slice_get w.owners h ≡ Some old) × (number_of old ≡ Some number)
-  pub hands : (v : ℕ) (held : Held) → hand_at new.crew.hands v ≡ Holds held
+  pub hands : (v : ℕ) (held : JobInHand) → hand_at new.crew.hands v ≡ Holds held
       → IsOldOrBegins w.crew.hands v held
 
 pub rows_kept : (setting : ℕ) (plan : List Bool) (w new : Parts) (past : List Moment) (now : Moment)

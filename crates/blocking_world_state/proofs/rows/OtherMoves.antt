@@ -1,7 +1,8 @@
 -- The moves that leave the rows alone keep what is tied to them.
 use Rattle.std.proofs.Common.{◌≡◌, ⊎_elim, ℕ, List, [], ◌∷◌, Bool, true, false, refl, sym, ap, ◌∙◌}
 use Rattle.std.proofs.Common.{Option, Some, None, slice_get, slice_set, Ok, Err, arith}
-use Rattle.blocking_world_state.proofs.Types.{Act, Event, Moment, Party, Holds, Held, Parking, Row}
+use Rattle.blocking_world_state.proofs.Types.{Act, Event, Moment, Party}
+use Rattle.blocking_world_state.proofs.Types.{Holds, JobInHand, Parking, Row}
 use Rattle.blocking_world_state.proofs.Words.{JobNumber, IsPlanned, accepted_by, ends_for_good}
 use Rattle.blocking_world_state.proofs.Words.{events, is_of_pool, acts_of, hand_at, IsNumberOf}
 use Rattle.blocking_world_state.proofs.Words.{CrewHolds, act_in, Owner, number_of, Task}
@@ -154,7 +155,7 @@ leaves_by w move may stay = grind arith
 
 old_hand : (plan : List Bool) (w : Parts) (e : Event) (new : Parts) (move : Move)
     → leaves_turns (call_of w move) ≡ true → CrewMoves (IsPlanned plan) move w e new
-    → (v : ℕ) (held : Held) → hand_at new.crew.hands v ≡ Holds held
+    → (v : ℕ) (held : JobInHand) → hand_at new.crew.hands v ≡ Holds held
     → IsOldOrBegins w.crew.hands v held
 old_hand plan w e new move leaves does v held is = grind (arith, hands_moved)
 

@@ -1,7 +1,7 @@
 -- The job of a session, of whatever kind: what it does next, and how far it is once it was
 -- answered.
 use Rattle.std.proofs.Common.{◌≡◌, List, ◌∷◌, true, arith}
-use Rattle.blocking_world_state.proofs.Types.{Act, Answered, Answer, SessionJob}
+use Rattle.blocking_world_state.proofs.Types.{Act, Answered, HandleAnswer, SessionJob}
 use Rattle.blocking_world_state.proofs.Words.{Kind, JobAction, next_but_wake, wake_first}
 use Rattle.blocking_world_state.proofs.Words.{next_of_job, is_answer, is_answered_action}
 use Rattle.blocking_world_state.proofs.Words.{next_in_turn, GoesOn, has_waker, job_after_answer}
@@ -20,7 +20,7 @@ pub job_action_is : (job : SessionJob) (acts : List Act) → JobAs job acts
 job_action_is job acts r = grind arith
 
 -- how far it is once it was answered
-pub job_answers : (job : SessionJob) (acts : List Act) (answer : Answer)
+pub job_answers : (job : SessionJob) (acts : List Act) (answer : HandleAnswer)
     → JobAs job acts → is_answer (action_of job) answer ≡ true
     → JobAs (job_after_answer job answer) (Answered answer ∷ acts)
 job_answers (job_of.Read p) acts answer r is = reads.answers p acts answer r is
@@ -30,12 +30,12 @@ job_answers (job_of.Operate p) acts answer r is = operations.answers p acts answ
 job_answers (job_of.Items p) acts answer r is = streams.answers p acts answer r is
 
 -- where its turn goes on, what it is answered is an answer to what it asks for
-pub answer_of : (next : JobAction) (answer : Answer)
+pub answer_of : (next : JobAction) (answer : HandleAnswer)
     → is_answered_action (next_in_turn GoesOn next) answer ≡ true → is_answer next answer ≡ true
 answer_of next answer is = grind arith
 
 -- and of what kind it stays
-pub kind_answered : (job : SessionJob) (answer : Answer)
+pub kind_answered : (job : SessionJob) (answer : HandleAnswer)
     → kind_of (job_after_answer job answer) ≡ kind_of job
 kind_answered job answer = grind arith
 

@@ -4,7 +4,8 @@ use Rattle.std.proofs.Common.{◌≡◌, ℕ, List, Bool, true, false, refl, sym
 use Rattle.std.proofs.Common.{Some, slice_get, IfSome, arith}
 use Rattle.std.proofs.lemmas.Bool.{eq-eqb}
 use Rattle.blocking_world_state.proofs.Types.{Standing, Act, Event, Moment, Party, ByOwner, ByTask}
-use Rattle.blocking_world_state.proofs.Types.{Step, OfTask, TaskCall, Cancel, Drop, Holds, Held}
+use Rattle.blocking_world_state.proofs.Types.{Step, OfTask, TaskCall, Cancel}
+use Rattle.blocking_world_state.proofs.Types.{Drop, Holds, JobInHand}
 use Rattle.blocking_world_state.proofs.Types.{Core}
 use Rattle.blocking_world_state.proofs.Words.{JobNumber, Kind, Over, next_but_wake, has_given_up}
 use Rattle.blocking_world_state.proofs.Words.{holder, is_holder, is_marked, standing, events}
@@ -137,7 +138,7 @@ module _ (setting : ℕ) (plan : List Bool) (w : Parts) (past : List Moment)
       let both : Holds job.held ≡ Holds held = sym here.holds ∙ at in
       let same : job.held ≡ held = cc in
       mark_is setting plan w past t v job here
-      ∙ ap (λ (h : Held). is_marked past h.turn.serial) same
+      ∙ ap (λ (h : JobInHand). is_marked past h.turn.serial) same
   asked (Passes call) may = pass_asked w past (step_by call) call may.0
   asked (IsWoken s row) may = (t.rowed.each s row may).number
   asked (IsStruck s row) may = (t.rowed.each s row may.0).number

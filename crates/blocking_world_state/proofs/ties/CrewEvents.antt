@@ -2,7 +2,7 @@
 use Rattle.std.proofs.Common.{◌≡◌, ℕ, List, [], Bool, true, false, refl, sym, ap, ◌∙◌, subst}
 use Rattle.std.proofs.Common.{Option, Some, None, ◌||◌, ◌==◌, Ok, arith}
 use Rattle.blocking_world_state.proofs.Types.{Woke, Act, JobCancelled, JobWoken, Event, Party}
-use Rattle.blocking_world_state.proofs.Types.{Worker, Holds, Held, Row}
+use Rattle.blocking_world_state.proofs.Types.{Worker, Holds, JobInHand, Row}
 use Rattle.blocking_world_state.proofs.Words.{JobNumber, is_bare, IsPlanned, accepted_by, cancels}
 use Rattle.blocking_world_state.proofs.Words.{lets_go, is_some_worker, is_of_pool, is_nothing}
 use Rattle.blocking_world_state.proofs.Words.{is_of_job, is_by_task, is_in_cut, is_making, Crew}
@@ -59,7 +59,7 @@ added_of plan who client crew_now new e number m = grind (arith, number_of_new)
 -- ---- acts of a job
 
 -- where its turn allows it, the job in a hand acts so
-pub worked : (may_answer : ℕ → Bool → Type 0) (v : ℕ) (held : Held)
+pub worked : (may_answer : ℕ → Bool → Type 0) (v : ℕ) (held : JobInHand)
     (act : Act) (crew_now new : Crew) (e : Event) → hand_at crew_now.hands v ≡ Holds held
     → may_act held.stage act ≡ true
     → crew.Moves may_answer (crew.Work v act) crew_now e new

@@ -4,8 +4,9 @@ use Rattle.std.proofs.Common.{◌∙◌, subst, Option, Some, None, slice_get, E
 use Rattle.std.proofs.lemmas.Bool.{or_parts}
 use Rattle.blocking_world_state.proofs.Types.{Woke, Act, Answered, Asked, HolderDropped}
 use Rattle.blocking_world_state.proofs.Types.{JobCancelled, JobWoken, Made, NoAction, Event, Party}
-use Rattle.blocking_world_state.proofs.Types.{ByOwner, Pool, ByTask, Worker, Answer, TaskCall}
-use Rattle.blocking_world_state.proofs.Types.{Holds, Held, Stage, Ticket, Parking, SessionJob, Core}
+use Rattle.blocking_world_state.proofs.Types.{ByOwner, Pool, ByTask, Worker, HandleAnswer, TaskCall}
+use Rattle.blocking_world_state.proofs.Types.{Holds, JobInHand, TurnStage, Ticket}
+use Rattle.blocking_world_state.proofs.Types.{Parking, SessionJob, Core}
 use Rattle.blocking_world_state.proofs.Words.{is_bare, accepted_by, cancels, lets_go, is_of_pool}
 use Rattle.blocking_world_state.proofs.Words.{is_aside, IsPlanned, is_some_worker, is_of_job}
 use Rattle.blocking_world_state.proofs.Words.{is_answered_action, named, Crew, may_act, hand_at}
@@ -17,7 +18,7 @@ use Rattle.blocking_world_state.proofs.Words.{task_call, May, CrewMoves, Parts, 
 use Rattle.blocking_world_state.proofs.Words.{session_step, Done, call_done, session_seen}
 use Rattle.blocking_world_state.proofs.Words.{session_done, done}
 use Rattle.blocking_world_pool.specs.Moves as crew
-use Rattle.blocking_world_pool.specs.declared.hand.Stage.TheVariants as stage
+use Rattle.blocking_world_pool.specs.declared.hand.TurnStage.TheVariants as stage
 use Rattle.blocking_world_holders.specs.Calls as calls
 use Rattle.blocking_world_holders.specs.OwnerSteps as owners
 use Rattle.blocking_world_state.specs.Rows.{next_of}
@@ -30,18 +31,18 @@ use Rattle.blocking_world_state.proofs.ties.Jobs.{job_here, next_here}
 -- ---- what a job does fits its turn
 
 -- a job may do this where it is in its turn
-abbrev MaySo : Stage → Act → Type 0
+abbrev MaySo : TurnStage → Act → Type 0
 MaySo at act = may_act at act ≡ true
 
 module _ (d : Done) where
   -- the job of a call
-  call_so : (at : Stage) (k : ℕ) (call : calls.Progress) (all : List Task) (row : List Owner)
+  call_so : (at : TurnStage) (k : ℕ) (call : calls.Progress) (all : List Task) (row : List Owner)
       (task : Option Task) → call_done k call at all row task (call_step at call) ≡ Some d
       → MaySo at d.act
   call_so at k call all row task e = grind arith
 
   -- the job of a session
-  session_so : (at : Stage) (h : ℕ) (job : SessionJob) (all : List Task) (row : List Owner)
+  session_so : (at : TurnStage) (h : ℕ) (job : SessionJob) (all : List Task) (row : List Owner)
       (owner : Option Owner) → session_done h job all row owner (session_step at job) ≡ Some d
       → MaySo at d.act
   session_so at h job all row None e = absurd cc
@@ -61,13 +62,13 @@ module _ (d : Done) where
       moved (λ (x : Done). MaySo stage.MustWake x.act) _ d e refl
   session_so _ h job all row (Some owner) e = absurd cc
 
-  pub done_fits : (at : Stage) (c : Core) (all : List Task) (row : List Owner)
+  pub done_fits : (at : TurnStage) (c : Core) (all : List Task) (row : List Owner)
       → done at c all row ≡ Some d → may_act at d.act ≡ true
   done_fits at (core.Call k call) all row e = call_so at k call all row (slice_get all k) e
   done_fits at (core.Session h job) all row e = session_so at h job all row (slice_get row h) e
 
 -- a job is answered only while its turn goes on
-pub answer_fits : (at : Stage) (c : Core) (answer : Answer)
+pub answer_fits : (at : TurnStage) (c : Core) (answer : HandleAnswer)
     → is_answered_action (next_of at c) answer ≡ true → at ≡ stage.Runs
 answer_fits at c answer is = grind arith
 
@@ -101,7 +102,7 @@ call_said : (k : ℕ) (call : TaskCall) (task : Task) (e : Event) → ToldBy (ta
 call_said k call task e told = grind arith
 
 -- the run of a job that waits ends so
-parks_so : (may_answer : ℕ → Bool → Type 0) (v : ℕ) (held : Held)
+parks_so : (may_answer : ℕ → Bool → Type 0) (v : ℕ) (held : JobInHand)
     (ticket : Ticket) (crew_now new : Crew) (e : Event) → hand_at crew_now.hands v ≡ Holds held
     → held.stage ≡ stage.Waits
     → crew.Moves may_answer (crew.Park v ticket) crew_now e new

@@ -1,7 +1,8 @@
 -- What the hands of a crew have after a call of it: what they had, or a job that begins its turn.
 use Rattle.std.proofs.Common.{◌≡◌, ◌⊎◌, inl, ℕ, ◌+◌, ◌==◌, List, length, Bool, true, false, sym}
 use Rattle.std.proofs.Common.{◌∙◌, if◌then◌else◌, arith}
-use Rattle.blocking_world_state.proofs.Types.{Waited, Act, Event, Hand, Free, Holds, Held, Parking}
+use Rattle.blocking_world_state.proofs.Types.{Waited, Act, Event, Hand}
+use Rattle.blocking_world_state.proofs.Types.{Free, Holds, JobInHand, Parking}
 use Rattle.blocking_world_state.proofs.Words.{Crew, hand_at, with_hand, GaveAs}
 use Rattle.blocking_world_pool.specs.Moves as crew
 use Rattle.blocking_world_pool.proofs.hands.Rows.{IsAt, at_free, at_held, hand_set, hand_pushed}
@@ -12,15 +13,17 @@ Begins (Holds held) = (acts : List Act) → GaveAs held.stage acts
 Begins hand = Unit {0}
 
 -- a job is in a hand as before, or begins its turn
-abbrev pub IsOldOrBegins : List Hand → ℕ → Held → Type 0
+abbrev pub IsOldOrBegins : List Hand → ℕ → JobInHand → Type 0
 IsOldOrBegins row u held =
     (hand_at row u ≡ Holds held) ⊎ ((acts : List Act) → GaveAs held.stage acts)
 
-one_of : (b : Bool) (new before : Hand) (held : Held) → Begins new → (if b then new else before)
+one_of : (b : Bool) (new before : Hand) (held : JobInHand) → Begins new
+    → (if b then new else before)
     ≡ Holds held → (before ≡ Holds held) ⊎ ((acts : List Act) → GaveAs held.stage acts)
 one_of b new before held begins is = grind arith
 
-set_hand : (row : List Hand) (v u : ℕ) (old new : Hand) (held : Held) → IsAt row v old → Begins new
+set_hand : (row : List Hand) (v u : ℕ) (old new : Hand) (held : JobInHand) → IsAt row v old
+    → Begins new
     → hand_at (with_hand row v new) u ≡ Holds held → IsOldOrBegins row u held
 set_hand row v u old new held at begins is =
     one_of (v == u) new (hand_at row u) held begins (sym (hand_set row v u old new at) ∙ is)
@@ -41,7 +44,7 @@ leaves_turns call = true
 
 hands_by : (may_answer : ℕ → Bool → Type 0) (crew_now : Crew) (move : crew.Move)
     → crew.May may_answer crew_now move → leaves_turns (crew.call_of move) ≡ true
-    → (u : ℕ) (held : Held) → hand_at (crew.after crew_now move).hands u ≡ Holds held
+    → (u : ℕ) (held : JobInHand) → hand_at (crew.after crew_now move).hands u ≡ Holds held
     → IsOldOrBegins crew_now.hands u held
 hands_by may_answer crew_now (crew.Arrives pass) may other u held is =
     one_of (length crew_now.hands + 1 == u) (Free pass) (hand_at crew_now.hands u) held tt
@@ -65,5 +68,6 @@ hands_by may_answer crew_now _ may other u held is = inl is
 -- with one that begins its turn.
 pub hands_moved : (may_answer : ℕ → Bool → Type 0) (call : crew.Call) (crew_now new : Crew)
     (e : Event) → leaves_turns call ≡ true → crew.Moves may_answer call crew_now e new
-    → (u : ℕ) (held : Held) → hand_at new.hands u ≡ Holds held → IsOldOrBegins crew_now.hands u held
+    → (u : ℕ) (held : JobInHand) → hand_at new.hands u ≡ Holds held
+    → IsOldOrBegins crew_now.hands u held
 hands_moved may_answer call crew_now new e other m u held is = grind (arith, hands_by)

@@ -1,8 +1,9 @@
 -- What the job in a hand does to its task or its owner where it acts, and how that is seen.
 use Rattle.std.proofs.Common.{◌≡◌, ℕ, ◌-◌, List, [], Bool, true, false, refl, sym, ap, ◌∙◌, subst}
 use Rattle.std.proofs.Common.{Option, Some, slice_get, slice_set, arith}
-use Rattle.blocking_world_state.proofs.Types.{Running, Act, Answered, Event, Moment, Party, Answer}
-use Rattle.blocking_world_state.proofs.Types.{Stage, SessionJob, Core, Row}
+use Rattle.blocking_world_state.proofs.Types.{Running, Act, Answered, Event}
+use Rattle.blocking_world_state.proofs.Types.{Moment, Party, HandleAnswer}
+use Rattle.blocking_world_state.proofs.Types.{TurnStage, SessionJob, Core, Row}
 use Rattle.blocking_world_state.proofs.Words.{has_given_up, holder, events, acts_of, next_in_turn}
 use Rattle.blocking_world_state.proofs.Words.{is_answered_action, may_cancel, GoesOn, may_act}
 use Rattle.blocking_world_state.proofs.Words.{turn_of, OwnerStep, Owner, TaskStep, Task, Parts}
@@ -10,7 +11,7 @@ use Rattle.blocking_world_state.proofs.Words.{owner_of, InHand, next_at, owner_i
 use Rattle.blocking_world_state.proofs.Words.{is_at_first, call_step, call_after, session_step}
 use Rattle.blocking_world_state.proofs.Words.{job_after, Done, session_seen, session_done, done}
 use Rattle.blocking_world_state.proofs.Words.{PlaceAs, Tied}
-use Rattle.blocking_world_pool.specs.declared.hand.Stage.TheVariants as stage
+use Rattle.blocking_world_pool.specs.declared.hand.TurnStage.TheVariants as stage
 use Rattle.blocking_world_holders.specs.Calls as calls
 use Rattle.blocking_world_holders.specs.OwnerSteps as owners
 use Rattle.blocking_world_holders.specs.Steps as tasks
@@ -27,7 +28,7 @@ use Rattle.blocking_world_state.proofs.ties.Jobs.{IsHere, job_place, next_here}
 -- ---- what it does
 
 -- The job of a call took this step of its task, and left the owners as they were.
-pub record CallActs (w : Parts) (at : Stage) (k : ℕ) (call : calls.Progress) (did : Done) :
+pub record CallActs (w : Parts) (at : TurnStage) (k : ℕ) (call : calls.Progress) (did : Done) :
     Type 0 where
   pub step : TaskStep
   pub task : Task
@@ -39,7 +40,7 @@ pub record CallActs (w : Parts) (at : Stage) (k : ℕ) (call : calls.Progress) (
   pub owners_are : did.owners ≡ w.owners
 
 -- The job of a session took this step of its owner, and left the tasks as they were.
-pub record SessionActs (w : Parts) (at : Stage) (h : ℕ) (read : SessionJob) (did : Done) :
+pub record SessionActs (w : Parts) (at : TurnStage) (h : ℕ) (read : SessionJob) (did : Done) :
     Type 0 where
   pub step : OwnerStep
   pub owner : Owner
@@ -50,11 +51,11 @@ pub record SessionActs (w : Parts) (at : Stage) (h : ℕ) (read : SessionJob) (d
   pub tasks_are : did.tasks ≡ w.tasks
   pub owners_are : did.owners ≡ slice_set w.owners h (owners.owner_after step owner)
 
-pub call_acts : (w : Parts) (at : Stage) (k : ℕ) (call : calls.Progress) (did : Done)
+pub call_acts : (w : Parts) (at : TurnStage) (k : ℕ) (call : calls.Progress) (did : Done)
     → done at (core.Call k call) w.tasks w.owners ≡ Some did → CallActs w at k call did
 call_acts w at k call did does = grind arith
 
-pub session_acts : (w : Parts) (at : Stage) (h : ℕ) (read : SessionJob) (did : Done)
+pub session_acts : (w : Parts) (at : TurnStage) (h : ℕ) (read : SessionJob) (did : Done)
     → done at (core.Session h read) w.tasks w.owners ≡ Some did → SessionActs w at h read did
 session_acts w at h read did does = by (slice_get w.owners h) (session_step at read) refl refl does
   where
@@ -73,7 +74,7 @@ session_acts w at h read did does = by (slice_get w.owners h) (session_step at r
 
 -- what a job may do where it is in its turn is seen, and no pool decides it; it makes no owner, and
 -- no job is accepted
-pub may_plain : (at : Stage) (act : Act) → may_act at act ≡ true → IsPlain [] act
+pub may_plain : (at : TurnStage) (act : Act) → may_act at act ≡ true → IsPlain [] act
 may_plain at act may = let own = own_act at act may in
     record { pool = own.pool; nothing = own.something; made = own.made; new = own.accepted }
 
@@ -113,7 +114,7 @@ let_go_here setting plan w past t v job here must = grind (arith, must_drop)
 
 -- it hasn't given up, it asks for such an answer, and its turn goes on
 pub asks_here : (setting : ℕ) (plan : List Bool) (w : Parts) (past : List Moment)
-    → Tied setting plan w past → (v : ℕ) (job : InHand) (answer : Answer) → IsHere w v job
+    → Tied setting plan w past → (v : ℕ) (job : InHand) (answer : HandleAnswer) → IsHere w v job
     → is_answered_action (next_at w v) answer ≡ true
     → (has_given_up (acts_of job.held.turn.serial (events past)) ≡ false)
     × (is_answered_action (next_in_turn GoesOn (action_of job.row.core)) answer ≡ true)

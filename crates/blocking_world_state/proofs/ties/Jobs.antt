@@ -5,7 +5,7 @@ use Rattle.std.proofs.Common.{slice_get, is_some}
 use Rattle.std.proofs.lemmas.Bool.Decides.{nat_tests}
 use Rattle.std.proofs.lemmas.Option.{slice_get_within}
 use Rattle.blocking_world_state.proofs.Types.{Running, Moment, Party, ByOwner, ByTask, Hand, Holds}
-use Rattle.blocking_world_state.proofs.Types.{Held, Core, Row}
+use Rattle.blocking_world_state.proofs.Types.{JobInHand, Core, Row}
 use Rattle.blocking_world_state.proofs.Words.{JobNumber, holder, standing, events, acts_of}
 use Rattle.blocking_world_state.proofs.Words.{task_cut, cut, hand_at, IsNumberOf, turn_of, OwnerAs}
 use Rattle.blocking_world_state.proofs.Words.{Owner, number_of, Task, TaskAs, Parts, row_of, InHand}
@@ -80,7 +80,7 @@ module _ (setting : ℕ) (plan : List Bool) (w : Parts) (past : List Moment)
       (row.0, row.1, cc)
 
   -- what is in a hand has its row
-  pub hand_job : (v : ℕ) (held : Held) → hand_at w.crew.hands v ≡ Holds held
+  pub hand_job : (v : ℕ) (held : JobInHand) → hand_at w.crew.hands v ≡ Holds held
       → (job : InHand) × IsHere w v job × (job.held ≡ held)
   hand_job v held at =
       let row = has_row held.turn.serial

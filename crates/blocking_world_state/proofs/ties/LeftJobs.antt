@@ -6,7 +6,8 @@ use Rattle.std.proofs.Common.{slice_get, slice_set, is_some, is_none, Ok, Err}
 use Rattle.std.proofs.lemmas.Bool.{eqb-true, eq-eqb}
 use Rattle.std.proofs.lemmas.Option.{slice_get_within}
 use Rattle.blocking_world_state.proofs.Types.{Running, Act, JobParked, Event, Moment, Party}
-use Rattle.blocking_world_state.proofs.Types.{ByOwner, HandleCall, Stage, SessionJob, OwnerStage}
+use Rattle.blocking_world_state.proofs.Types.{ByOwner, HandleCall, TurnStage}
+use Rattle.blocking_world_state.proofs.Types.{SessionJob, OwnerStage}
 use Rattle.blocking_world_state.proofs.Types.{Core}
 use Rattle.blocking_world_state.proofs.Words.{IsPlanned, Kind, next_but_wake, is_over, fault}
 use Rattle.blocking_world_state.proofs.Words.{has_finished, has_given_up, holder, is_woken}
@@ -23,7 +24,7 @@ use Rattle.blocking_world_state.proofs.Words.{is_first, is_at_first, session_ste
 use Rattle.blocking_world_state.proofs.Words.{CoreAs, PlaceAs, is_left, seated_in, is_number, IsMet}
 use Rattle.blocking_world_state.proofs.Words.{Crossed, moment, Tied}
 use Rattle.blocking_world_laws.specs.Sessions as sessions
-use Rattle.blocking_world_pool.specs.declared.hand.Stage.TheVariants as stage
+use Rattle.blocking_world_pool.specs.declared.hand.TurnStage.TheVariants as stage
 use Rattle.blocking_world_holders.specs.OwnerSteps as owners
 use Rattle.blocking_world_holders.specs.Owners.{next_at}
 use Rattle.blocking_world_holders.specs.SessionJobs as jobs
@@ -92,7 +93,7 @@ first_stays : (h : ℕ) (c : Core) (acts : List Act) → party_of c ≡ ByOwner 
 first_stays h c acts party first going so = grind arith
 
 -- what its job does leaves a job with its owner
-step_met : (at : Stage) (job : SessionJob) (step : OwnerStep) (owner : Owner) (s : ℕ)
+step_met : (at : TurnStage) (job : SessionJob) (step : OwnerStep) (owner : Owner) (s : ℕ)
     (seated : Bool) → session_step at job ≡ Some step → SeatAs seated owner.session → IsMet owner s
     → IsMet (owners.owner_after step owner) s
 step_met stage.Runs job step owner s seated is seat met =
@@ -110,12 +111,12 @@ step_met stage.MustWake job step owner s seated is seat met =
 step_met _ job step owner s seated is seat met = absurd cc
 
 -- A job parks while its turn goes on, at its first action, and is seated.
-record ParksSo (at : Stage) (job : SessionJob) (step : OwnerStep) (owner : Owner) : Type 0 where
+record ParksSo (at : TurnStage) (job : SessionJob) (step : OwnerStep) (owner : Owner) : Type 0 where
   runs : at ≡ stage.Runs
   first : is_first (jobs.action_of job) ≡ true
   seat : seated_in (owners.owner_after step owner).session ≡ number_of owner
 
-parks_so : (at : Stage) (job : SessionJob) (step : OwnerStep) (owner : Owner) (act : Act)
+parks_so : (at : TurnStage) (job : SessionJob) (step : OwnerStep) (owner : Owner) (act : Act)
     → session_step at job ≡ Some step → owners.act_of step owner ≡ Some act → act ≡ JobParked
     → ParksSo at job step owner
 parks_so at job step owner act is does parks = grind arith

@@ -3,7 +3,7 @@
 use Rattle.std.proofs.Common.{◌≡◌, ℕ, ◌≤◌, List, [], ◌∷◌, length, Bool, true, false, refl, sym, ap}
 use Rattle.std.proofs.Common.{◌∙◌, subst, arith, Option, Some, slice_get, Ok}
 use Rattle.blocking_world_state.proofs.Types.{Woke, Act, Accepted, HolderDropped, JobCancelled}
-use Rattle.blocking_world_state.proofs.Types.{Event, Moment, ByOwner, ByTask, TaskCall, Stage}
+use Rattle.blocking_world_state.proofs.Types.{Event, Moment, ByOwner, ByTask, TaskCall, TurnStage}
 use Rattle.blocking_world_state.proofs.Types.{Parking, OwnerStage, Row}
 use Rattle.blocking_world_state.proofs.Words.{IsPlanned, accepted_by, accepts, tasks, newcomer}
 use Rattle.blocking_world_state.proofs.Words.{holder, cancels, lets_go, events, own, may_cancel}
@@ -25,7 +25,7 @@ use Rattle.blocking_world_state.proofs.ties.Releases.{let_go_is}
 -- ---- quiet acts
 
 -- an act of a job
-work_quiet : (at : Stage) (act : Act) → may_act at act ≡ true → IsQuiet act
+work_quiet : (at : TurnStage) (act : Act) → may_act at act ≡ true → IsQuiet act
 work_quiet at act may = grind arith
 
 -- an act of an owner by itself

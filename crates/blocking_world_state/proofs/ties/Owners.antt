@@ -6,8 +6,9 @@ use Rattle.std.proofs.Common.{Result, Ok, Err, arith}
 use Rattle.std.proofs.lemmas.Bool.{eqb-true, or_parts}
 use Rattle.blocking_world_state.proofs.Types.{Refusal, Running, Act, Accepted, Answered, Asked}
 use Rattle.blocking_world_state.proofs.Types.{HolderDropped, JobWoken, Made, Refused, Event, Moment}
-use Rattle.blocking_world_state.proofs.Types.{ByOwner, Pool, ByTask, Worker, Answer, Step, TaskCall}
-use Rattle.blocking_world_state.proofs.Types.{Stage, SessionJob, Core}
+use Rattle.blocking_world_state.proofs.Types.{ByOwner, Pool, ByTask, Worker}
+use Rattle.blocking_world_state.proofs.Types.{HandleAnswer, Step, TaskCall}
+use Rattle.blocking_world_state.proofs.Types.{TurnStage, SessionJob, Core}
 use Rattle.blocking_world_state.proofs.Words.{Growth, JobNumber, IsPlanned, Kind, JobAction}
 use Rattle.blocking_world_state.proofs.Words.{next_but_wake, is_over, has_given_up, accepted_by}
 use Rattle.blocking_world_state.proofs.Words.{holder, events, is_of_pool, is_nothing, is_of_job}
@@ -25,7 +26,7 @@ use Rattle.blocking_world_state.proofs.Words.{done, core_after_answer, CoreAs, P
 use Rattle.blocking_world_state.proofs.Words.{moment, Tied}
 use Rattle.blocking_world_laws.specs.OwnerLaws.{OwnerLaws}
 use Rattle.blocking_world_pool.specs.Moves as crew
-use Rattle.blocking_world_pool.specs.declared.hand.Stage.TheVariants as stage
+use Rattle.blocking_world_pool.specs.declared.hand.TurnStage.TheVariants as stage
 use Rattle.blocking_world_holders.specs.OwnerSteps as holders
 use Rattle.blocking_world_holders.specs.OwnerSteps.{IsAside, owner_in}
 use Rattle.blocking_world_holders.specs.SessionJobs as jobs
@@ -56,7 +57,7 @@ first_goes job acts so first =
     first_open (next_but_wake (jobs.kind_of job) acts) (first_of_table job acts so first)
 
 -- where it is in its turn, its next step is one that its owner may take
-session_may : (at : Stage) (job : SessionJob) (step : OwnerStep) (owner : Owner) (kind : Kind)
+session_may : (at : TurnStage) (job : SessionJob) (step : OwnerStep) (owner : Owner) (kind : Kind)
     (acts : List Act) → kind ≡ jobs.kind_of job → session_step at job ≡ Some step
     → (at ≡ stage.MustGiveUp → is_gone owner.stage ≡ true)
     → (has_given_up acts ≡ false → JobAs job acts)
@@ -65,7 +66,7 @@ session_may : (at : Stage) (job : SessionJob) (step : OwnerStep) (owner : Owner)
 session_may at job step owner kind acts of is gone so place gave = grind arith
 
 -- that is an act of the owner's job
-its_act : (at : Stage) (job : SessionJob) (step : OwnerStep) → session_step at job ≡ Some step
+its_act : (at : TurnStage) (job : SessionJob) (step : OwnerStep) → session_step at job ≡ Some step
     → is_of_its_job step ≡ true
 its_act at job step is = grind arith
 
@@ -259,7 +260,7 @@ module _ (setting : ℕ) (plan : List Bool) (w : Parts) (past : List Moment)
           (is_now ∙ a.owners_are)
 
   -- the job in a hand is answered
-  answered : (v : ℕ) (job : InHand) (answer : Answer)
+  answered : (v : ℕ) (job : InHand) (answer : HandleAnswer)
       → IsHere w v job → is_answered_action (next_at w v) answer ≡ true
       → Told (Worker v) (Some job.held.turn.serial) (Answered answer) e
       → new.rows ≡ slice_set w.rows (job.held.turn.serial - 1)

@@ -5,8 +5,9 @@ use Rattle.std.proofs.Common.{sym, ap, ◌∙◌, subst, Some, None, not, slice_
 use Rattle.std.proofs.Common.{Ok, Err, arith}
 use Rattle.std.proofs.lemmas.Bool.{and_right, eqb-true}
 use Rattle.blocking_world_state.proofs.Types.{Action, Refusal, Running, Act, Answered, Event}
-use Rattle.blocking_world_state.proofs.Types.{Moment, ByOwner, Pool, ByTask, Worker, Answer, Number}
-use Rattle.blocking_world_state.proofs.Types.{Step, TaskCall, Stage, Core}
+use Rattle.blocking_world_state.proofs.Types.{Moment, ByOwner, Pool, ByTask}
+use Rattle.blocking_world_state.proofs.Types.{Worker, HandleAnswer, Number}
+use Rattle.blocking_world_state.proofs.Types.{Step, TaskCall, TurnStage, Core}
 use Rattle.blocking_world_state.proofs.Words.{Growth, JobNumber, IsPlanned, has_given_up}
 use Rattle.blocking_world_state.proofs.Words.{accepted_by, holder, events, is_task, is_nothing}
 use Rattle.blocking_world_state.proofs.Words.{acts_of, next_in_turn, is_answered_action, may_cancel}
@@ -22,7 +23,7 @@ use Rattle.blocking_world_state.proofs.Words.{is_at_first, call_step, Done, done
 use Rattle.blocking_world_state.proofs.Words.{CoreAs, PlaceAs, GaveAs, moment, Tied}
 use Rattle.blocking_core.specs.declared.job.Action.TheVariants as action
 use Rattle.blocking_world_pool.specs.Moves as crew
-use Rattle.blocking_world_pool.specs.declared.hand.Stage.TheVariants as stage
+use Rattle.blocking_world_pool.specs.declared.hand.TurnStage.TheVariants as stage
 use Rattle.blocking_world_holders.specs.Steps as holders
 use Rattle.blocking_world_holders.specs.Steps.{MayTake, act_of, event_by}
 use Rattle.blocking_world_state.specs.declared.row.Core.TheVariants as core
@@ -43,7 +44,7 @@ use Rattle.blocking_world_state.proofs.ties.Jobs.{next_free, task_holds}
 -- ---- what the job of a call may do
 
 -- where it is in its turn, its next step is one that its task may take
-call_may : (at : Stage) (call : Progress) (step : TaskStep) (task : Task) (acts : List Act)
+call_may : (at : TurnStage) (call : Progress) (step : TaskStep) (task : Task) (acts : List Act)
     → call_step at call ≡ Some step → (at ≡ stage.MustGiveUp → has_let_go task.stage ≡ true)
     → (has_given_up acts ≡ false → RanAs call.next call.number acts)
     → PlaceAs (Some Running) (turn_of at) (is_first (call_action call.next)) acts → GaveAs at acts
@@ -51,7 +52,7 @@ call_may : (at : Stage) (call : Progress) (step : TaskStep) (task : Task) (acts 
 call_may at call step task acts is lets ran place gave = grind arith
 
 -- that is no call by the task's holder
-never_called : (at : Stage) (call : Progress) (step : TaskStep) → call_step at call ≡ Some step
+never_called : (at : TurnStage) (call : Progress) (step : TaskStep) → call_step at call ≡ Some step
     → is_call step ≡ false
 never_called at call step is = grind arith
 
@@ -61,7 +62,7 @@ by_its_job : (step : TaskStep)
 by_its_job step is k v s act first growth = grind arith
 
 -- it is answered by a number, where it makes its call
-answered_so : (next : Action) (answer : Answer)
+answered_so : (next : Action) (answer : HandleAnswer)
     → is_answered_action (next_in_turn GoesOn (call_action next)) answer ≡ true
     → (next ≡ action.Call) × ((n : ℕ) × (answer ≡ Number n))
 answered_so next answer is = grind arith
@@ -211,7 +212,7 @@ module _ (setting : ℕ) (plan : List Bool) (w : Parts) (past : List Moment)
           (its_holder setting plan w past t v job _ here is)) (tasks ∙ a.tasks_are)
 
   -- the job in a hand is answered
-  answered : (v : ℕ) (job : InHand) (answer : Answer)
+  answered : (v : ℕ) (job : InHand) (answer : HandleAnswer)
       → IsHere w v job → is_answered_action (next_at w v) answer ≡ true
       → Told (Worker v) (Some job.held.turn.serial) (Answered answer) e
       → new.rows ≡ slice_set w.rows (job.held.turn.serial - 1)

@@ -2,9 +2,10 @@ use Rattle.std.proofs.Common.{◌∙◌, sym, refl, subst, []}
 use Rattle.blocking_core.specs.declared.unblock.PollCall.{PollCall}
 use Rattle.blocking_unblock.specs.Polls.{KeepsOpen}
 use Rattle.blocking_unblock.proofs.Crossings.{first_crosses, reply_crossed}
-use Rattle.blocking_unblock.proofs.Turns.{at_once_kept, closes_only, first_brought, first_kept}
-use Rattle.blocking_unblock.proofs.Turns.{first_stands, none_going, open_on, reaches_on, refused_by}
-use Rattle.blocking_unblock.proofs.Turns.{same_open, stays_closed}
+use Rattle.blocking_unblock.proofs.Rounds.{at_once_kept, closes_only, first_brought, first_kept}
+use Rattle.blocking_unblock.proofs.Rounds.{first_stands, none_going, open_on}
+use Rattle.blocking_unblock.proofs.Rounds.{reaches_on, refused_by}
+use Rattle.blocking_unblock.proofs.Rounds.{same_open, stays_closed}
 use Rattle.blocking_unblock.proofs.unblock.Unblock.poll.Goals as goal
 
 pub loop-init : goal.loop-init
@@ -29,19 +30,19 @@ pub loop-preserved : goal.loop-preserved
 loop-preserved g c = (
   tt,
   tt,
-  c.turn.ensures.stands,
-  reaches_on _ _ _ c.loop.invariant.3 c.turn.ensures.reaches,
-  c.turn.ensures.call_same ∙ c.loop.invariant.4,
-  let P : PollCall → Type 0 = λ call. KeepsOpen call c.loop.poll.state c.turn.new.poll.state in
-      open_on _ _ _ _ c.loop.invariant.5 (subst P c.loop.invariant.4 c.turn.ensures.kept_open),
-  λ fact held. c.turn.ensures.kept fact (c.loop.invariant.6 fact held),
-  c.turn.ensures.same_length ∙ c.loop.invariant.7,
-  λ idle. c.turn.ensures.keeps _ (c.loop.invariant.8 idle),
-  c.turn.ensures.brings _ c.loop.invariant.9,
-  λ at_once. absurd (none_going _ _ c.turn.ensures.went (c.loop.invariant.10 at_once).0 at_once),
-  c.turn.ensures.rest.0 ∙ c.loop.invariant.11,
-  c.turn.ensures.rest.1 ∙ c.loop.invariant.12,
-  c.turn.ensures.crosses _ c.loop.invariant.13,
+  c.do_next.ensures.stands,
+  reaches_on _ _ _ c.loop.invariant.3 c.do_next.ensures.reaches,
+  c.do_next.ensures.call_same ∙ c.loop.invariant.4,
+  let P : PollCall → Type 0 = λ call. KeepsOpen call c.loop.poll.state c.do_next.new.poll.state in
+      open_on _ _ _ _ c.loop.invariant.5 (subst P c.loop.invariant.4 c.do_next.ensures.kept_open),
+  λ fact held. c.do_next.ensures.kept fact (c.loop.invariant.6 fact held),
+  c.do_next.ensures.same_length ∙ c.loop.invariant.7,
+  λ idle. c.do_next.ensures.keeps _ (c.loop.invariant.8 idle),
+  c.do_next.ensures.brings _ c.loop.invariant.9,
+  λ at_once. absurd (none_going _ _ c.do_next.ensures.went (c.loop.invariant.10 at_once).0 at_once),
+  c.do_next.ensures.rest.0 ∙ c.loop.invariant.11,
+  c.do_next.ensures.rest.1 ∙ c.loop.invariant.12,
+  c.do_next.ensures.crosses _ c.loop.invariant.13,
 )
 
 pub returns-in-Reply-clause-refused : goal.returns-in-Reply-clause-refused

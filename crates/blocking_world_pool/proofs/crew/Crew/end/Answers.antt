@@ -23,7 +23,7 @@ returns c =
         c.self.view_is,
       );
       after_is =
-          let row = refilled c.self.inside.workers c.over.new.self c.args.worker
+          let row = refilled c.self.inside.workers c.take_ended.new.self c.args.worker
           c.in-Some.ensures.after c.put.new.self _ c.put.ensures in
           cc (row, c.end-pass.ensures);
     })
@@ -32,7 +32,7 @@ pub invariant_of-self-2 : goal.invariant_of-self-2
 invariant_of-self-2 c = moved_ready c.self.invariant c.self.view_is (returns c)
 
 pub put-requires : goal.put-requires
-put-requires c = held_is_out c.self.inside.workers c.over.new.self c.args.worker
+put-requires c = held_is_out c.self.inside.workers c.take_ended.new.self c.args.worker
     c.in-Some.ensures.after may_end c.in-Some.held c.in-Some.ensures.held
 
 pub end-pass-requires : goal.end-pass-requires
@@ -42,6 +42,6 @@ end-pass-requires c = c.self.invariant.runs c.args.worker c.in-Some.held
 pub returns-in_default : goal.returns-in_default
 returns-in_default c =
     rw (sym c.self.view_is)
-    (idles NeverAsked (End c.args.worker) (the_view c.self.inside) c.over.new.self
+    (idles NeverAsked (End c.args.worker) (the_view c.self.inside) c.take_ended.new.self
     (ap is_some (sym c.in_default.ensures.held)) c.in_default.ensures.after
     (c.next_start-first.ensures ∙ ap next_start (sym c.self.view_is)) c.nothing.ensures)

@@ -26,7 +26,7 @@ returns c =
           ∙ ap (λ (act : Act). seen (Worker c.args.worker) (Some c.serial-serial.result) act
           c.next_start-first.result no_growth) c.parked-hand.ensures.act);
       after_is =
-          let row = refilled c.self.inside.workers c.waiting.new.self c.args.worker
+          let row = refilled c.self.inside.workers c.take_waiting.new.self c.args.worker
           c.in-Some.ensures.after c.put.new.self _ c.put.ensures in
           cc (row, c.parked-hand.ensures.hand);
     })
@@ -35,7 +35,7 @@ pub invariant_of-self-2 : goal.invariant_of-self-2
 invariant_of-self-2 c = moved_ready c.self.invariant c.self.view_is (returns c)
 
 pub put-requires : goal.put-requires
-put-requires c = held_is_out c.self.inside.workers c.waiting.new.self c.args.worker
+put-requires c = held_is_out c.self.inside.workers c.take_waiting.new.self c.args.worker
     c.in-Some.ensures.after is_waiting c.in-Some.held c.in-Some.ensures.held
 
 pub park-requires : goal.park-requires
@@ -46,5 +46,5 @@ pub returns-in_default : goal.returns-in_default
 returns-in_default c =
     rw (sym c.self.view_is)
     (idles NeverAsked (Park c.args.worker c.args.ticket) (the_view c.self.inside)
-    c.waiting.new.self (ap is_some (sym c.in_default.ensures.held)) c.in_default.ensures.after
+    c.take_waiting.new.self (ap is_some (sym c.in_default.ensures.held)) c.in_default.ensures.after
     (c.next_start-first.ensures ∙ ap next_start (sym c.self.view_is)) c.nothing.ensures)

@@ -21,14 +21,14 @@ returns g c =
       c.self.view_is,
     ))
     (refilled c.self.inside.workers
-    c.pass.new.self c.args.worker c.in-Some.ensures.after c.put.new.self _ c.put.ensures
+    c.take_pass.new.self c.args.worker c.in-Some.ensures.after c.put.new.self _ c.put.ensures
     ∙ ap (with_hand c.self.inside.workers c.args.worker) c.received-hand.ensures.hand))
 
 pub invariant_of-self-2 : goal.invariant_of-self-2
 invariant_of-self-2 g c = moved_ready c.self.invariant c.self.view_is (returns g c)
 
 pub put-requires : goal.put-requires
-put-requires g c = pass_is_out c.self.inside.workers c.pass.new.self c.args.worker
+put-requires g c = pass_is_out c.self.inside.workers c.take_pass.new.self c.args.worker
     c.in-Some.ensures.after c.in-Some.pass c.in-Some.ensures.pass
 
 pub take-took-requires : goal.take-took-requires
@@ -39,5 +39,5 @@ pub returns-in_default : goal.returns-in_default
 returns-in_default g c =
     rw (sym c.self.view_is)
     (idles (g.S.Starter.may_answer c.args.starter.now) (Take c.args.worker) (the_view c.self.inside)
-    c.pass.new.self (no_pass _ c.in_default.ensures.pass) c.in_default.ensures.after
+    c.take_pass.new.self (no_pass _ c.in_default.ensures.pass) c.in_default.ensures.after
     (c.next_start-first.ensures ∙ ap next_start (sym c.self.view_is)) c.nothing.ensures)

@@ -24,7 +24,7 @@ returns g c =
         c.self.view_is,
       );
       after_is =
-          let row = refilled c.self.inside.workers c.pass.new.self c.args.worker
+          let row = refilled c.self.inside.workers c.take_pass.new.self c.args.worker
           c.in-Some.ensures.after c.put.new.self _ c.put.ensures in
           cc (row, c.settled-hand.ensures.hand);
     })
@@ -33,7 +33,7 @@ pub invariant_of-self-2 : goal.invariant_of-self-2
 invariant_of-self-2 g c = moved_ready c.self.invariant c.self.view_is (returns g c)
 
 pub put-requires : goal.put-requires
-put-requires g c = pass_is_out c.self.inside.workers c.pass.new.self c.args.worker
+put-requires g c = pass_is_out c.self.inside.workers c.take_pass.new.self c.args.worker
     c.in-Some.ensures.after c.in-Some.pass c.in-Some.ensures.pass
 
 pub after_wait-waited-requires-clause-free : goal.after_wait-waited-requires-clause-free
@@ -45,5 +45,5 @@ returns-in_default g c =
     rw (sym c.self.view_is)
     (idles (g.S.Starter.may_answer c.args.starter.now)
     (Wait c.args.worker c.args.end) (the_view c.self.inside)
-    c.pass.new.self (no_pass _ c.in_default.ensures.pass) c.in_default.ensures.after
+    c.take_pass.new.self (no_pass _ c.in_default.ensures.pass) c.in_default.ensures.after
     (c.next_start-first.ensures ∙ ap next_start (sym c.self.view_is)) c.nothing.ensures)

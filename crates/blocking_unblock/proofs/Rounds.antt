@@ -1,4 +1,4 @@
--- What one turn of a poll does to its machine.
+-- What one round of a poll does to its machine.
 use Rattle.std.proofs.Common.{◌≡◌, if◌then◌else◌, ◌⊎◌, ◌<◌, ◌≤◌, ℕ, zero, suc, Bool, true, false}
 use Rattle.std.proofs.Common.{List, [], ◌∷◌, ◌++◌, Option, Some, None, inl, inr, refl, sym, ap, ◌∙◌}
 use Rattle.std.proofs.Common.{subst, arith}
@@ -512,14 +512,14 @@ module _ {B : Type 0} (E : Type 0) (keeps : B → Kept → Type 0) (before after
   item_brought (Operate begun) = tt
   item_brought call = tt
 
--- ---- a turn
+-- ---- a round
 
 -- the machine after an answer, and after the note that came with it was spent
 abbrev pub told : {E : Type 0} → Bool → OwnerMachine E → OwnerAnswer E → OwnerMachine E
 told true poll answer = owner_after (owner_after poll answer) by.Delivered
 told false poll answer = owner_after poll answer
 
--- one turn from a machine to another
+-- one round from a machine to another
 pub record Turned {T I H E B : Type 0} (begins : B → State → Type 0) (keeps : B → Kept → Type 0)
     (old new : OwnerMachine E) (was place : Place T I H) (before after : B) (armed : Type 0) :
     Type 0 where
@@ -948,7 +948,7 @@ module _ {T I H B : Type 0} (E : Type 0) (begins : B → State → Type 0) (keep
     goes (act.Reply reply) answer noted going = absurd going
     goes act.Pending answer noted going = absurd going
 
-  -- A turn of a machine that stands: it does what it names, is told of it, and stands again.
+  -- A round of a machine that stands: it does what it names, is told of it, and stands again.
   pub turned : (poll : OwnerMachine E) (answer : OwnerAnswer E) (noted : Bool) → IsGoing poll.next
       → Stands begins keeps was poll old before
       → Does (begins before) poll.next old answer noted new armed

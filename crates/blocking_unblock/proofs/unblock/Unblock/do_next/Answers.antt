@@ -1,7 +1,7 @@
 use Rattle.futures.specs.Task.{IsArmed}
 use Rattle.blocking_unblock.proofs.Crossings.{crossed_plain, crossed_noted}
-use Rattle.blocking_unblock.proofs.Turns.{turned_plain, turned_noted}
-use Rattle.blocking_unblock.proofs.unblock.Unblock.turn.Goals as goal
+use Rattle.blocking_unblock.proofs.Rounds.{turned_plain, turned_noted}
+use Rattle.blocking_unblock.proofs.unblock.Unblock.do_next.Goals as goal
 
 pub returns-in-Some-clause-stands : goal.returns-in-Some-clause-stands
 returns-in-Some-clause-stands g c =
