@@ -167,7 +167,7 @@ fn wake_all<H: Host>(
 }
 
 // A thread's call.
-fn wakes<J: Job, H: Host>(
+fn waking_call<J: Job, H: Host>(
     jobs: &Executor<J, H>,
     numbers: &Arc<Vec<JobNo>>,
     track: &Arc<Track>,
@@ -193,14 +193,14 @@ fn pair<J: Job, H: Host>(
 ) -> io::Result<(Wakes<J, H>, Wakes<J, H>)> {
     let one = Arc::new(rt.alloc(), AtomicUsize::new(0))?;
     let two = Arc::new(rt.alloc(), AtomicUsize::new(0))?;
-    let first = wakes(
+    let first = waking_call(
         jobs,
         numbers,
         track,
         Arc::try_clone(&one)?,
         Arc::try_clone(&two)?,
     )?;
-    let second = wakes(jobs, numbers, track, two, one)?;
+    let second = waking_call(jobs, numbers, track, two, one)?;
     Ok((first, second))
 }
 
