@@ -15,7 +15,7 @@
 //!   so the handle itself is further than what was read. What was read ahead is lost where the handle is used otherwise (written, sought,
 //!   taken back), and where its owner is dropped.
 //! - **A log, or anything that is written**: the same with [`AsyncWriteExt`]. What a write took is written later; only a flush that is
-//!   ready says that it was. What wasn't flushed may be lost.
+//!   ready says that it was. What wasn't flushed may be lost. A flush doesn't mean that the disk has it.
 //! - **A copy**: a [`Copier`] over both is ready once all that was read is written and flushed.
 //!
 //! The jobs of an executor are one type. Where it runs calls of one type alone that is [`CallJob`]; [`Jobs`] has a variant for each kind.
@@ -31,7 +31,8 @@
 //! let count = block_on(&rt, file.read(&mut piece))??;
 //! ```
 //!
-//! What the ends of a pipe answer stands in [`pipe`], and what a pool does in [`pool`].
+//! What the ends of a pipe answer is in [`pipe`], and what a pool does in [`pool`]. Owners that can't be closed are in `blocking_anytime`,
+//! files over one pool in `blocking_files`.
 #![tactic(auto)]
 
 mod jobs;

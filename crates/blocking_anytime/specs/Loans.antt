@@ -6,7 +6,7 @@ use Rattle.std.specs.declared.alloc.Allocator as allocator
 use Rattle.std.specs.declared.clone.Clone as clone
 use Rattle.blocking_pool.specs.declared.pool.job.Job.{Ghosts}
 use Rattle.blocking_unblock.specs.Loans.{IfLent}
-use Rattle.blocking_unblock.specs.declared.place.Place.TheVariants.{Idle}
+use Rattle.blocking_unblock.specs.declared.handle_state.HandleState.TheVariants.{Idle}
 use Rattle.blocking_anytime.specs.declared.open.Open.{Open}
 use Rattle.blocking_anytime.specs.contracts.open.Open.{the_row}
 

@@ -76,7 +76,7 @@ impl<T: Drop, I: Drop, J: Job, H: Runtime> Drop for Open<T, I, J, H> {
 }
 
 impl<T: Drop, I: Drop, J: Job, H: Runtime> Open<T, I, J, H> {
-    ghost use Rattle.blocking_unblock.specs.declared.place.Place.TheVariants.{Idle as AtOwner};
+    ghost use Rattle.blocking_unblock.specs.declared.handle_state.HandleState.TheVariants.{Idle as AtOwner};
 
     /// The owner of a handle, whose sessions have pipes for 8,388,608 bytes or 8192 items, as [`Unblock::new`] makes it.
     pub fn new(executor: Executor<J, H>, handle: T) -> Self
@@ -167,7 +167,7 @@ impl<T: Drop, I: Drop, J: Job, H: Runtime> Open<T, I, J, H> {
     ghost use Rattle.std.specs.Option.{option_copied_mut};
     ghost use Rattle.blocking_core.specs.declared.unblock.PollCall.TheVariants.{GetMut as GetMutCall};
     ghost use Rattle.blocking_core.specs.declared.unblock.State.TheVariants.{Idle};
-    ghost use Rattle.blocking_unblock.specs.declared.place.Place.TheVariants.{Idle as AtOwner};
+    ghost use Rattle.blocking_unblock.specs.declared.handle_state.HandleState.TheVariants.{Idle as AtOwner};
     ghost use Rattle.blocking_unblock.specs.Owners.{IsAt, Follows, KeepsAtOnce, handle_in, reply_of_get};
     ghost use Rattle.blocking_anytime.specs.Loans.{lends_open_handle};
 
@@ -266,7 +266,8 @@ impl<T: Write + Drop, I: Drop, J: Job + Carries<WriteJob<T, H>>, H: Runtime> Asy
         self.owner.poll_write(cx, bytes)
     }
 
-    /// Waits until all that was taken is written and flushed, or answers why it isn't. A fault is reported once.
+    /// Waits until all that was taken is written and flushed, or answers why it isn't. A fault is reported once. A flush doesn't mean that
+    /// the disk has it.
     fn poll_flush(&mut self, cx: &mut Context<'_>) -> Poll<Result<(), IoFault>>
         ensures follows { Follows FlushCall self.old.owner.place (reply_of_done result) self.new.owner.place }
         ensures at_once { KeepsAtOnce FlushCall self.old.owner.place self.new.owner.place }

@@ -41,7 +41,7 @@ pub struct Entries<H: Runtime, J: Job = FileJob<H>> {
 const AHEAD: usize = 256;
 
 impl<H: Runtime, J: Job> Entries<H, J> {
-    ghost use Rattle.blocking_unblock.specs.declared.place.Place.TheVariants.{Idle as AtOwner};
+    ghost use Rattle.blocking_unblock.specs.declared.handle_state.HandleState.TheVariants.{Idle as AtOwner};
 
     fn new(files: &Files<H, J>, entries: Box<ReadDir>) -> Result<Entries<H, J>, AllocError>
         ensures { IfOk result (λ listed. listed.owner.owner.place ≡ AtOwner entries) }

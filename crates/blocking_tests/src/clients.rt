@@ -110,12 +110,15 @@ impl<H: Host> Client<H> {
     }
 }
 
+fn call_is_answered<H: Host>(rt: H) -> io::Result<bool> {
+    let mut client = Client::new(rt, 7)?;
+    let executor: Callers<H> = Executor::new(rt, Some("4"))?;
+    Ok(client.begin(&executor, 1, 0)? && client.is_served()?)
+}
+
 #[test]
 fn call_of_a_client_answers(rt: HostRuntime) -> Result<(), Fail> {
-    let executor: Callers<HostRuntime> = Executor::new(rt, Some("4"))?;
-    let mut client = Client::new(rt, 7)?;
-    assert!(rt; client.begin(&executor, 1, 0)?);
-    assert!(rt; client.is_served()?);
+    assert!(rt; call_is_answered(rt)?);
     Ok(())
 }
 
@@ -131,11 +134,16 @@ fn most_of_two<J: Job + Carries<CallJob<Sleep<H>, H>>, H: Host>(
     Ok(is_served.then_some((first.most(), second.most())))
 }
 
+// The same at client limit 1.
+fn most_at_limit_one<H: Host>(rt: H) -> io::Result<Option<(u32, u32)>> {
+    let executor: Callers<H> = Executor::new(rt, Some("4"))?;
+    set_client_limit(&executor, Some(1));
+    most_of_two(rt, &executor)
+}
+
 #[test]
 fn one_call_of_each_client_runs_at_a_time(rt: HostRuntime) -> Result<(), Fail> {
-    let executor: Callers<HostRuntime> = Executor::new(rt, Some("4"))?;
-    set_client_limit(&executor, Some(1));
-    assert_eq!(rt; most_of_two(rt, &executor)?, Some((1, 1)));
+    assert_eq!(rt; most_at_limit_one(rt)?, Some((1, 1)));
     Ok(())
 }
 
@@ -184,11 +192,18 @@ fn nanos_beside_queued_calls<J: Job + Carries<CallJob<Sleep<H>, H>>, H: Host + s
     Ok(is_kept.then_some(nanos))
 }
 
+// The same of a new pool of four workers. None where there aren't four, too.
+fn nanos_of_four_workers<H: Host + std::fs::Files>(rt: H) -> io::Result<Option<u64>> {
+    let executor: Callers<H> = Executor::new(rt, Some("4"))?;
+    if !has_four_workers(rt, &executor)? {
+        return Ok(None);
+    }
+    nanos_beside_queued_calls(rt, &executor)
+}
+
 #[test]
 fn idle_workers_sleep_beside_jobs_that_are_not_ready(rt: HostRuntime) -> Result<(), Fail> {
-    let executor: Callers<HostRuntime> = Executor::new(rt, Some("4"))?;
-    assert!(rt; has_four_workers(rt, &executor)?);
-    let nanos = nanos_beside_queued_calls(rt, &executor)?;
+    let nanos = nanos_of_four_workers(rt)?;
     assert!(rt; nanos.is_some_and(|nanos| nanos < HARDLY_ANY));
     Ok(())
 }

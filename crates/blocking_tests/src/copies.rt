@@ -285,6 +285,33 @@ fn named(copied: Result<u64, CopyFault>) -> Answer {
     }
 }
 
+// What a copy answers, whether it is done then, how many bytes it counted, and its writer. (over any reader and writer, which costs less to
+// prove: docs/GATE.md)
+fn copied<R: sync::Wait + AllocGlobal + RandomSource, A: AsyncRead + Drop, B: AsyncWrite + Drop>(
+    rt: &R,
+    reader: A,
+    writer: B,
+    piece: usize,
+) -> Result<((Answer, bool, u64), B), Fail>
+    requires some { 0 < piece }
+    requires reader_open { A.closed reader → ⊥ }
+    requires writer_open { B.closed writer → ⊥ }
+{
+    let mut copier = Copier::new(rt.alloc(), reader, writer, piece)?;
+    let answer = named(block_on(rt, &mut copier)?);
+    let told = (answer, copier.is_done(), copier.copied());
+    let (_, writer) = copier.into_parts();
+    Ok((told, writer))
+}
+
+// Whether byte i is i.
+fn count_up(bytes: &[u8]) -> bool {
+    bytes
+        .iter()
+        .enumerate()
+        .all(|(place, byte)| *byte == (place % 256) as u8)
+}
+
 #[test]
 fn copies_end_as_their_calls_say(rt: HostRuntime) -> Result<(), Fail> {
     for row in ROWS {
@@ -299,20 +326,20 @@ fn copies_end_as_their_calls_say(rt: HostRuntime) -> Result<(), Fail> {
             is_flushed: false,
             is_closed: false,
         };
-        let mut copier = Copier::new(rt.alloc(), source, sink, row.piece.max(1))?;
-        let answer = named(block_on(&rt, &mut copier)?);
-        assert_eq!(rt; answer, row.answer, "{}", row.name);
-        assert!(rt; copier.is_done(), "{}", row.name);
-        assert_eq!(rt; copier.copied(), row.written as u64, "{}", row.name);
-        let (_, sink) = copier.into_parts();
-        assert_eq!(rt; sink.is_flushed, row.is_flushed, "{}", row.name);
-        assert_eq!(rt; sink.bytes.len(), row.written, "{}", row.name);
-        let is_right = sink
-            .bytes
-            .iter()
-            .enumerate()
-            .all(|(place, byte)| *byte == (place % 256) as u8);
-        assert!(rt; is_right, "{}", row.name);
+        let (told, sink) = copied(&rt, source, sink, row.piece.max(1))?;
+        assert_eq!(rt;
+            told,
+            (row.answer, true, row.written as u64),
+            "{}",
+            row.name
+        );
+        let written = (sink.bytes.len(), sink.is_flushed, count_up(&sink.bytes));
+        assert_eq!(rt;
+            written,
+            (row.written, row.is_flushed, true),
+            "{}",
+            row.name
+        );
     }
     Ok(())
 }

@@ -31,10 +31,10 @@ use Rattle.blocking_unblock.specs.Owners.{BackAt, HasCrossed, IsAt, state_of, ha
 use Rattle.blocking_unblock.specs.Owners.{crossed_before, goes_on}
 use Rattle.blocking_unblock.specs.Polls.{Kept, Starts, FitsAction, Stands, IsGoing, Does, Crossing}
 use Rattle.blocking_unblock.specs.Polls.{SawEnd}
-use Rattle.blocking_unblock.specs.declared.place.Place.{Place}
+use Rattle.blocking_unblock.specs.declared.handle_state.HandleState.{HandleState}
 use Rattle.blocking_unblock.proofs.Rounds.{told, got_is, not_back}
 
-module _ {T I H : Type 0} (E : Type 0) (place : Place T I H) (before : ℕ) where
+module _ {T I H : Type 0} (E : Type 0) (place : HandleState T I H) (before : ℕ) where
   -- a reply of no bytes says nothing of the pipe
   none_crosses : 0 < 0 → crossed_at place ≡ before + 0
   none_crosses some = let no : 0 < 0 = some in absurd (omega arith)
@@ -180,9 +180,9 @@ module _ {T I H : Type 0} (E : Type 0) (place : Place T I H) (before : ℕ) wher
 -- ---- a round
 
 module _ {T I H B : Type 0} (E : Type 0) (begins : B → State → Type 0) (keeps : B → Kept → Type 0)
-    (was armed : Type 0) (old new : Place T I H) (brought : B) (before : ℕ) where
+    (was armed : Type 0) (old new : HandleState T I H) (brought : B) (before : ℕ) where
   -- what crossed by a moment of a machine
-  abbrev At : OwnerMachine E → Place T I H → Type 0
+  abbrev At : OwnerMachine E → HandleState T I H → Type 0
   At poll place = Crossing poll.call poll.state poll.next poll.is_at_end place before
 
   module _ (call : PollCall) (state : State) (at_end : Bool) where
@@ -363,7 +363,7 @@ module _ {T I H B : Type 0} (E : Type 0) (begins : B → State → Type 0) (keep
 
 module _ {T I H : Type 0} (E : Type 0) where
   -- what a call does in a session: it goes on in its own, or stops it
-  lent_crosses : (kind : SessionKind) (call : PollCall) (end : OwnerEnd) (place : Place T I H)
+  lent_crosses : (kind : SessionKind) (call : PollCall) (end : OwnerEnd) (place : HandleState T I H)
       → Crossing {E = E} call (Lent kind end) (in_session (goes_on_in kind call) call kind end)
       false place (if goes_on call (Lent kind end) then crossed_at place else 0)
   lent_crosses Reading (Read most) Open place = refl
@@ -374,7 +374,7 @@ module _ {T I H : Type 0} (E : Type 0) where
   lent_crosses kind call end place = stop_crosses E place 0 call kind end false refl
 
   -- what a call does first
-  table_crosses : (call : PollCall) (state : State) (place : Place T I H)
+  table_crosses : (call : PollCall) (state : State) (place : HandleState T I H)
       → Crossing {E = E} call state (table call state) false place
       (if goes_on call state then crossed_at place else 0)
   table_crosses (Read zero) state place = λ some. let no : 0 < 0 = some in absurd (omega arith)
@@ -403,7 +403,7 @@ module _ {T I H : Type 0} (E : Type 0) where
 
 module _ {T I H E : Type 0} where
   pub first_crosses : (poll : OwnerMachine E) (call : PollCall) (state : State)
-      (place : Place T I H) → poll ≡ new_poll call state → state ≡ state_of place
+      (place : HandleState T I H) → poll ≡ new_poll call state → state ≡ state_of place
       → Crossing poll.call poll.state poll.next poll.is_at_end place
       (crossed_before poll.call place)
   first_crosses poll call state place is at =
@@ -415,7 +415,7 @@ module _ {T I H E : Type 0} where
 
   -- a poll that has its reply
   pub reply_crossed : (poll first : OwnerMachine E) (call : PollCall) (state : State)
-      (place was : Place T I H) (reply : Reply E) → poll.is_waking ≡ false
+      (place was : HandleState T I H) (reply : Reply E) → poll.is_waking ≡ false
       → act.Reply reply ≡ owner_next poll → first ≡ new_poll call state
       → Crossing poll.call poll.state poll.next poll.is_at_end place (crossed_before first.call was)
       → HasCrossed reply place (crossed_before call was)

@@ -13,7 +13,7 @@ use Rattle.blocking_core.specs.declared.unblock.OwnerAnswer.{OwnerAnswer}
 use Rattle.blocking_core.specs.declared.unblock.OwnerAnswer.TheVariants as by
 use Rattle.blocking_core.specs.declared.unblock.Reply.TheVariants as reply
 use Rattle.blocking_unblock.specs.Owners.{Follows, IsAt, Reaches, EndsWith, has}
-use Rattle.blocking_unblock.specs.declared.place.Place.{Place}
+use Rattle.blocking_unblock.specs.declared.handle_state.HandleState.{HandleState}
 
 -- the machine's answers: an item was received, and its job's note, if there was one, was spent
 abbrev answers : Bool → List (OwnerAnswer Error)
@@ -25,7 +25,7 @@ abbrev pub noted : {I N : Type 0} → Option (I × Option N) → Bool
 noted (Some got) = has got.1
 noted None = false
 
-module _ {T I H : Type 0} (old new : Place T I H) (at : IsAt (Lent Streaming Open) old) where
+module _ {T I H : Type 0} (old new : HandleState T I H) (at : IsAt (Lent Streaming Open) old) where
   -- where its poll comes to
   abbrev Comes : Bool → State → Type 0
   Comes noted state = (end : OwnerMachine Error) × Reaches (new_poll Next state) end

@@ -6,10 +6,10 @@ use Rattle.blocking_core.specs.declared.unblock.State.{State}
 use Rattle.blocking_core.specs.declared.unblock.Reply.{Reply}
 use Rattle.blocking_unblock.specs.Owners.{Follows, HasCrossed}
 use Rattle.blocking_unblock.specs.Polls.{Kept, FitsReply}
-use Rattle.blocking_unblock.specs.declared.place.Place.{Place}
+use Rattle.blocking_unblock.specs.declared.handle_state.HandleState.{HandleState}
 
 module _ {E : Type 0} {one other : Reply E} (same : one ≡ other) where
-  pub follows_as : {T I H : Type 0} (call : PollCall) (old new : Place T I H)
+  pub follows_as : {T I H : Type 0} (call : PollCall) (old new : HandleState T I H)
       → Follows call old (Ready one) new → Follows call old (Ready other) new
   follows_as call old new = subst (λ it. Follows call old (Ready it) new) same
 
@@ -17,6 +17,7 @@ module _ {E : Type 0} {one other : Reply E} (same : one ≡ other) where
       → FitsReply call state one ready kept → FitsReply call state other ready kept
   fits_as call state ready kept = subst (λ it. FitsReply call state it ready kept) same
 
-  pub crossed_as : {T I H : Type 0} (place : Place T I H) (before : ℕ) → HasCrossed one place before
+  pub crossed_as : {T I H : Type 0} (place : HandleState T I H) (before : ℕ)
+      → HasCrossed one place before
       → HasCrossed other place before
   crossed_as place before = subst (λ it. HasCrossed it place before) same

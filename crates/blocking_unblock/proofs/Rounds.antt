@@ -40,7 +40,7 @@ use Rattle.blocking_unblock.specs.Polls.{Kept, Way, Item, Gave, Starts, Operates
 use Rattle.blocking_unblock.specs.Polls.{HasPipe, AtOwnEnd, Onward, FitsReply, IsGoing, Resumes}
 use Rattle.blocking_unblock.specs.Polls.{MayAsk, FitsAction, Stands, Brings, KeepsOpen, Does}
 use Rattle.blocking_unblock.specs.Polls.{KeepsFirst, KeepsBrought}
-use Rattle.blocking_unblock.specs.declared.place.Place.{Place}
+use Rattle.blocking_unblock.specs.declared.handle_state.HandleState.{HandleState}
 
 -- what a call that begins nothing on its own has to bring: some bytes, or an operation whose
 -- session is still to begin
@@ -316,7 +316,7 @@ open_on call a b c first rest = record {
 
 module _ {T I H : Type 0} (E : Type 0) where
   -- a session that a call begins gives the handle back at its end alone
-  begun_first : (call : PollCall) (at_end : Bool) (place first : Place T I H) → Starts call
+  begun_first : (call : PollCall) (at_end : Bool) (place first : HandleState T I H) → Starts call
       → KeepsFirst {E = E} call (begun_by call) (in_own call) at_end place first
   begun_first (Read most) at_end place first starts = tt
   begun_first (Write most) at_end place first starts = tt
@@ -329,7 +329,7 @@ module _ {T I H : Type 0} (E : Type 0) where
   begun_first IntoInner at_end place first starts = absurd starts
 
   refused_first : (call : PollCall) (why : Refusal) (state : State) (at_end : Bool)
-      (place first : Place T I H) → place ≡ first
+      (place first : HandleState T I H) → place ≡ first
       → KeepsFirst {E = E} call state (refusal call why) at_end place first
   refused_first (Read most) why state at_end place first is = is
   refused_first (Write most) why state at_end place first is = is
@@ -343,14 +343,14 @@ module _ {T I H : Type 0} (E : Type 0) where
 
   -- a fault of a job is no refusal
   failed_first : (call : PollCall) (why : Fault E) (state : State) (at_end : Bool)
-      (place first : Place T I H) → IsOfJob (Some why)
+      (place first : HandleState T I H) → IsOfJob (Some why)
       → KeepsFirst call state (act.Reply (reply.Failed why)) at_end place first
   failed_first call (fault.Io error) state at_end place first own = tt
   failed_first call fault.WriteZero state at_end place first own = tt
   failed_first call (fault.Refused why) state at_end place first own = absurd own
 
   sought_first : (is : Bool) (call : PollCall) (to : Position) (place : ℕ) (state : State)
-      (at_end : Bool) (new first : Place T I H) → is ≡ true
+      (at_end : Bool) (new first : HandleState T I H) → is ≡ true
       → KeepsFirst {E = E} call state
       (if is then act.Reply (reply.Position place) else table (Seek to) Idle) at_end new first
   sought_first true call to place state at_end new first is = tt
@@ -358,7 +358,7 @@ module _ {T I H : Type 0} (E : Type 0) where
 
   -- at the end of its own session a call has its reply
   back_first : (call : PollCall) (state : State) (at_end : Bool) (why : Option (Fault E))
-      (place first : Place T I H) → AtOwnEnd call state at_end
+      (place first : HandleState T I H) → AtOwnEnd call state at_end
       → BackAt state (by.Back why)
       → KeepsFirst call Idle (after_back call at_end why) at_end place first
   back_first (Read most) state true None place first own from = tt
@@ -385,7 +385,7 @@ module _ {T I H : Type 0} (E : Type 0) where
   back_first IntoInner state at_end why place first own from = absurd own
 
   seek_first : (call : PollCall) (state : State) (at_end : Bool) (came : ℕ)
-      (place first : Place T I H) → AtOwnEnd call state at_end
+      (place first : HandleState T I H) → AtOwnEnd call state at_end
       → BackAt {E = E} state (by.Sought came)
       → KeepsFirst {E = E} call Idle (after_seek state call came) at_end place first
   seek_first (Read most) state true came place first own from =
@@ -409,7 +409,7 @@ module _ {T I H : Type 0} (E : Type 0) where
   seek_first IntoInner state at_end came place first own from = absurd own
 
   -- a poll that begins with an idle handle has that
-  idle_first : (call : PollCall) (place : Place T I H)
+  idle_first : (call : PollCall) (place : HandleState T I H)
       → KeepsFirst {E = E} call Idle (table call Idle) false place place
   idle_first (Read zero) place = tt
   idle_first (Read (suc most)) place = refl
@@ -521,20 +521,20 @@ told false poll answer = owner_after poll answer
 
 -- one round from a machine to another
 pub record Turned {T I H E B : Type 0} (begins : B → State → Type 0) (keeps : B → Kept → Type 0)
-    (old new : OwnerMachine E) (was place : Place T I H) (before after : B) (armed : Type 0) :
+    (old new : OwnerMachine E) (was place : HandleState T I H) (before after : B) (armed : Type 0) :
     Type 0 where
   pub stands : Stands begins keeps armed new place after
   pub reaches : Reaches old new
   pub call_same : new.call ≡ old.call
   pub kept_open : KeepsOpen old.call old.state new.state
-  pub keeps_first : (first : Place T I H)
+  pub keeps_first : (first : HandleState T I H)
       → KeepsFirst old.call old.state old.next old.is_at_end was first
       → KeepsFirst new.call new.state new.next new.is_at_end place first
   pub brings : (first : B) → KeepsBrought keeps old.call old.next before first
       → KeepsBrought keeps new.call new.next after first
 
 module _ {T I H B : Type 0} (E : Type 0) (begins : B → State → Type 0) (keeps : B → Kept → Type 0)
-    (was armed : Type 0) (old new : Place T I H) (before after : B) where
+    (was armed : Type 0) (old new : HandleState T I H) (before after : B) where
   module _ (call : PollCall) (state : State) (at_end : Bool) where
     -- a machine between two actions
     abbrev between : OwnerAction E → OwnerMachine E
@@ -644,7 +644,8 @@ module _ {T I H B : Type 0} (E : Type 0) (begins : B → State → Type 0) (keep
     reply_turn : (next : OwnerAction E) (reply : Reply E) (end : OwnerMachine E)
         → end ≡ replied reply false → Reaches (between next) end
         → FitsReply call state reply (begins after (begun_by call)) (keeps after) → IsAt state new
-        → ((first : Place T I H) → KeepsFirst {E = E} call state (act.Reply reply) at_end new first)
+        → ((first : HandleState T I H) → KeepsFirst {E = E} call state
+        (act.Reply reply) at_end new first)
         → ((first : B) → KeepsBrought {E = E} keeps call (act.Reply reply) after first)
         → Turned begins keeps (between next) end old new before after armed
     reply_turn next reply end is reaches fits at first brought =
@@ -665,7 +666,8 @@ module _ {T I H B : Type 0} (E : Type 0) (begins : B → State → Type 0) (keep
         → owner_after (between next) answer ≡ replied reply noted
         → AnswersTo state (owner_next (between next)) answer
         → FitsReply call state reply (begins after (begun_by call)) (keeps after) → IsAt state new
-        → ((first : Place T I H) → KeepsFirst {E = E} call state (act.Reply reply) at_end new first)
+        → ((first : HandleState T I H) → KeepsFirst {E = E} call state
+        (act.Reply reply) at_end new first)
         → ((first : B) → KeepsBrought {E = E} keeps call (act.Reply reply) after first)
         → Turned begins keeps (between next) (told noted (between next) answer) old new before after
         armed
@@ -1005,7 +1007,7 @@ module _ {T I H B : Type 0} (E : Type 0) (begins : B → State → Type 0) (keep
 module _ {T I H E B : Type 0} (begins : B → State → Type 0) (keeps : B → Kept → Type 0) where
   -- a poll that begins stands
   pub first_stands : (armed : Type 0) (poll : OwnerMachine E) (call : PollCall) (state : State)
-      (place : Place T I H) (brought : B) → poll ≡ new_poll call state
+      (place : HandleState T I H) (brought : B) → poll ≡ new_poll call state
       → state ≡ state_of place → MayAsk begins keeps call (state_of place) brought
       → Stands begins keeps armed poll place brought
   first_stands armed poll call state place brought is at may =
@@ -1019,7 +1021,8 @@ module _ {T I H E B : Type 0} (begins : B → State → Type 0) (keeps : B → K
       })
 
 module _ {T I H E : Type 0} where
-  pub first_kept : (poll : OwnerMachine E) (call : PollCall) (state : State) (place : Place T I H)
+  pub first_kept : (poll : OwnerMachine E) (call : PollCall) (state : State)
+      (place : HandleState T I H)
       → poll ≡ new_poll call state → state ≡ state_of place → IsAt Idle place
       → KeepsFirst poll.call poll.state poll.next poll.is_at_end place place
   first_kept poll call state place is at idle =
@@ -1061,7 +1064,7 @@ module _ {E : Type 0} where
 
   -- and as it was, where it was there before
   refused_first_place : {T I H : Type 0} (call : PollCall) (state : State) (reply : Reply E)
-      (at_end : Bool) (place first : Place T I H)
+      (at_end : Bool) (place first : HandleState T I H)
       → KeepsFirst call state (act.Reply reply) at_end place first
       → IfRefused (Ready reply) (place ≡ first)
   refused_first_place call state (reply.Failed (fault.Refused why)) at_end place first kept = kept
@@ -1082,7 +1085,7 @@ module _ {E : Type 0} where
 
 module _ {T I H E : Type 0} where
   pub refused_by : {B : Type 0} (begins : B → State → Type 0) (keeps : B → Kept → Type 0)
-      (armed : Type 0) (poll : OwnerMachine E) (reply : Reply E) (place first : Place T I H)
+      (armed : Type 0) (poll : OwnerMachine E) (reply : Reply E) (place first : HandleState T I H)
       (brought : B)
       → Stands begins keeps armed poll place brought → act.Reply reply ≡ owner_next poll
       → (IsAt Idle first → KeepsFirst poll.call poll.state poll.next poll.is_at_end place first)
@@ -1102,14 +1105,14 @@ module _ {T I H E : Type 0} where
 
   -- where nothing was closed nothing is, but by a close; and what was closed is
   pub stays_closed : (first poll : OwnerMachine E) (call : PollCall) (state : State)
-      (before place : Place T I H) → first ≡ new_poll call state → state ≡ state_of before
+      (before place : HandleState T I H) → first ≡ new_poll call state → state ≡ state_of before
       → IsAt poll.state place → KeepsOpen first.call first.state poll.state → IsClosed before
       → IsClosed place
   stays_closed first poll call state before place is was at kept closed =
       at ∙ kept.stays (ap (λ m. m.state) is ∙ (was ∙ closed))
 
   pub closes_only : (first poll : OwnerMachine E) (call : PollCall) (state : State)
-      (before place : Place T I H) → first ≡ new_poll call state → state ≡ state_of before
+      (before place : HandleState T I H) → first ≡ new_poll call state → state ≡ state_of before
       → IsAt poll.state place → KeepsOpen first.call first.state poll.state → IsClosed place
       → IsClosed before ⊎ (call ≡ Close)
   closes_only first poll call state before place is was at kept closed =
@@ -1132,7 +1135,7 @@ module _ {E : Type 0} where
 
 module _ {T I H : Type 0} where
   pub at_once_kept : (first : OwnerMachine Error) (next : OwnerAction Error) (call : PollCall)
-      (state : State) (before place : Place T I H) → first ≡ new_poll call state
+      (state : State) (before place : HandleState T I H) → first ≡ new_poll call state
       → state ≡ state_of before → (HasReply first.next → (next ≡ first.next) × (place ≡ before))
       → KeepsAtOnce call before place
   at_once_kept first next call state before place is was kept replied =

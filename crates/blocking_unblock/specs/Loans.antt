@@ -5,10 +5,10 @@ use Rattle.std.specs.Global.{Global}
 use Rattle.std.specs.declared.alloc.Allocator as allocator
 use Rattle.std.specs.declared.clone.Clone as clone
 use Rattle.blocking_pool.specs.declared.pool.job.Job.{Ghosts}
-use Rattle.blocking_unblock.specs.declared.place.Place.{Place}
-use Rattle.blocking_unblock.specs.declared.place.Place.TheVariants.{Idle}
+use Rattle.blocking_unblock.specs.declared.handle_state.HandleState.{HandleState}
+use Rattle.blocking_unblock.specs.declared.handle_state.HandleState.TheVariants.{Idle}
 use Rattle.blocking_unblock.specs.declared.unblock.Unblock.{Unblock}
-use Rattle.blocking_unblock.specs.contracts.place.Place.{the_row as place_row}
+use Rattle.blocking_unblock.specs.contracts.handle_state.HandleState.{the_row as place_row}
 use Rattle.blocking_unblock.specs.contracts.unblock.Unblock.{the_row}
 
 -- what holds where a handle was lent, and what where none was
@@ -17,7 +17,7 @@ IfLent (Some handle) lent kept = lent
 IfLent None lent kept = kept
 
 -- the handle ends as it is left there; where it isn't with its owner, all is as before
-abbrev pub lends_place : (T I H : RattleType) → MutBor (Place T.Denot I.Denot H.Denot)
+abbrev pub lends_place : (T I H : RattleType) → MutBor (HandleState T.Denot I.Denot H.Denot)
     → Option (MutBor T.Denot) → Fml
 lends_place T I H place handle = LendsSo (place_row T I H) T place handle
     (λ last left. IfLent handle (last ≡ Idle left) (last ≡ place.now)) (λ last. last ≡ place.now)

@@ -31,8 +31,8 @@ use Rattle.blocking_core.specs.declared.unblock.OwnerAnswer.TheVariants as by
 use Rattle.futures.specs.declared.task.Poll.{Poll}
 use Rattle.futures.specs.declared.task.Poll.TheVariants.{Ready, Pending}
 use Rattle.std.specs.declared.io.Error.{Error}
-use Rattle.blocking_unblock.specs.declared.place.Place.{Place}
-use Rattle.blocking_unblock.specs.declared.place.Place.TheVariants as place
+use Rattle.blocking_unblock.specs.declared.handle_state.HandleState.{HandleState}
+use Rattle.blocking_unblock.specs.declared.handle_state.HandleState.TheVariants as place
 use Rattle.blocking_unblock.specs.declared.session.Side.{Side}
 use Rattle.blocking_unblock.specs.declared.session.Side.TheVariants as side
 
@@ -115,65 +115,65 @@ module _ {T I H : Type 0} where
 
   -- where the handle is: with its owner, with the job of a session of some kind whose end on the
   -- owner's side stands so, or nowhere
-  abbrev pub state_of : Place T I H → State
+  abbrev pub state_of : HandleState T I H → State
   state_of (place.Idle handle) = state.Idle
   state_of (place.Lent session) = state.Lent (kind_of session.side) session.owner_end
   state_of place.Closed = state.Closed
 
   -- whether the handle of the session that is under way was taken out of its slot, and is nowhere
   -- now
-  abbrev pub is_lost : Place T I H → Bool
+  abbrev pub is_lost : HandleState T I H → Bool
   is_lost (place.Lent session) = is_back session.side
   is_lost (place.Idle handle) = false
   is_lost place.Closed = false
 
   -- No handle is lost: that of a session which is under way is to come yet.
-  abbrev pub IsHeld : Place T I H → Type 0
+  abbrev pub IsHeld : HandleState T I H → Type 0
   IsHeld place = is_lost place ≡ false
 
   -- what crossed the pipe of the session that is under way
-  abbrev pub crossed_at : Place T I H → ℕ
+  abbrev pub crossed_at : HandleState T I H → ℕ
   crossed_at (place.Lent session) = crossed session.side
   crossed_at (place.Idle handle) = 0
   crossed_at place.Closed = 0
 
   -- the session that is under way has seen that nothing comes any more
-  abbrev pub SawEndAt : Place T I H → Type 0
+  abbrev pub SawEndAt : HandleState T I H → Type 0
   SawEndAt (place.Lent session) = SawEndOf session.side
   SawEndAt place = ⊥
 
   -- what had crossed before the pipe in which a call goes on: nothing, where it has yet to begin a
   -- session of its own
-  abbrev pub crossed_before : PollCall → Place T I H → ℕ
+  abbrev pub crossed_before : PollCall → HandleState T I H → ℕ
   crossed_before call place = if goes_on call (state_of place) then crossed_at place else 0
 
   -- so many bytes, or the item, that a reply tells have crossed a pipe that so many had crossed
   -- before
-  abbrev pub HasCrossed : {E : Type 0} → Reply E → Place T I H → ℕ → Type 0
+  abbrev pub HasCrossed : {E : Type 0} → Reply E → HandleState T I H → ℕ → Type 0
   HasCrossed (reply.Count count) place before = 0 < count → crossed_at place ≡ before + count
   HasCrossed reply.Item place before = crossed_at place ≡ before + 1
   HasCrossed reply place before = Unit {0}
 
   -- the handle is where the state says
-  abbrev pub IsAt : State → Place T I H → Type 0
+  abbrev pub IsAt : State → HandleState T I H → Type 0
   IsAt state place = state_of place ≡ state
 
   -- the handle, where it is with its owner
-  abbrev pub handle_in : Place T I H → Option T
+  abbrev pub handle_in : HandleState T I H → Option T
   handle_in (place.Idle handle) = Some handle
   handle_in (place.Lent session) = None
   handle_in place.Closed = None
 
   -- whether the handle is with the job of an operation
-  abbrev pub is_operating : Place T I H → Bool
+  abbrev pub is_operating : HandleState T I H → Bool
   is_operating place = operates (state_of place)
 
   -- the handle was dropped
-  abbrev pub IsClosed : Place T I H → Type 0
+  abbrev pub IsClosed : HandleState T I H → Type 0
   IsClosed place = IsAt state.Closed place
 
   -- a session that is there is this client's
-  abbrev pub IsFor : ℕ → Place T I H → Type 0
+  abbrev pub IsFor : ℕ → HandleState T I H → Type 0
   IsFor client (place.Lent session) = session.job.client ≡ client
   IsFor client _ = Unit {0}
 
@@ -313,7 +313,8 @@ reply_of_get Pending = Pending
 -- What a poll does and answers: its machine begins by the call and where the handle is, gets
 -- answers, each to the action that was next, and ends where the handle is then; the reply is the
 -- machine's.
-abbrev pub Follows : {T I H E : Type 0} → PollCall → Place T I H → Poll (Reply E) → Place T I H
+abbrev pub Follows : {T I H E : Type 0} → PollCall → HandleState T I H → Poll (Reply E)
+    → HandleState T I H
     → Type 0
 Follows {T} {I} {H} {E} call old reply new =
     (end : OwnerMachine E) × Reaches (new_poll call (state_of old)) end × EndsWith end reply
@@ -321,7 +322,8 @@ Follows {T} {I} {H} {E} call old reply new =
 
 -- Where no session could begin the handle is with its owner, and as it was, where it was there
 -- before.
-abbrev pub KeepsRefused : {T I H E : Type 0} → Place T I H → Poll (Reply E) → Place T I H → Type 0
+abbrev pub KeepsRefused : {T I H E : Type 0} → HandleState T I H → Poll (Reply E)
+    → HandleState T I H → Type 0
 KeepsRefused old reply new =
     IfRefused reply (IsAt state.Idle new × (IsAt state.Idle old → new ≡ old))
 
@@ -331,5 +333,6 @@ HasReply (act.Reply reply) = Unit {0}
 HasReply action = ⊥
 
 -- A call that has its reply at once, where the handle is, leaves the handle as it is.
-abbrev pub KeepsAtOnce : {T I H : Type 0} → PollCall → Place T I H → Place T I H → Type 0
+abbrev pub KeepsAtOnce : {T I H : Type 0} → PollCall → HandleState T I H → HandleState T I H
+    → Type 0
 KeepsAtOnce call old new = HasReply {E = Error} (table call (state_of old)) → new ≡ old

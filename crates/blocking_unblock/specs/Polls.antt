@@ -19,7 +19,7 @@ use Rattle.blocking_core.specs.declared.unblock.OwnerAnswer.TheVariants as by
 use Rattle.futures.specs.declared.task.Poll.{Poll}
 use Rattle.futures.specs.declared.task.Poll.TheVariants.{Ready, Pending}
 use Rattle.blocking_unblock.specs.Owners.{state_of, crossed_at, HasCrossed, SawEndAt, IsAt, BackAt}
-use Rattle.blocking_unblock.specs.declared.place.Place.{Place}
+use Rattle.blocking_unblock.specs.declared.handle_state.HandleState.{HandleState}
 
 -- what a call has beside its buffers: where it waits for a result, the item that came, the result
 -- that came
@@ -146,14 +146,14 @@ module _ {B : Type 0} (begins : B → State → Type 0) (keeps : B → Kept → 
     -- Between two actions: no note is to be spent, what is next fits, and the handle is where the
     -- machine says.
     pub record Stands {T I H : Type 0} (armed : Type 0) (poll : OwnerMachine E)
-        (place : Place T I H) (brought : B) : Type 0 where
+        (place : HandleState T I H) (brought : B) : Type 0 where
       pub awake : poll.is_waking ≡ false
       pub fits : FitsAction armed poll.call poll.state poll.next brought
       pub at : IsAt poll.state place
 
     -- an action can be done where the handle is so, with a buffer of so many bytes and so many to
     -- write
-    abbrev pub CanDo : {T I H : Type 0} → OwnerAction E → Place T I H → ℕ → ℕ → B → Type 0
+    abbrev pub CanDo : {T I H : Type 0} → OwnerAction E → HandleState T I H → ℕ → ℕ → B → Type 0
     CanDo act.Begin place room given brought =
         IsAt Idle place × ((state : State) × begins brought state)
     CanDo act.Close place room given brought = HasPipe (state_of place)
@@ -220,7 +220,8 @@ OnEnded answer P = Unit {0}
 
 -- the handle is where it was, and the end of its session has counted what the answer tells, or seen
 -- the end that it tells
-abbrev pub Crosses : {T I H E : Type 0} → Place T I H → OwnerAnswer E → Place T I H → Type 0
+abbrev pub Crosses : {T I H E : Type 0} → HandleState T I H → OwnerAnswer E → HandleState T I H
+    → Type 0
 Crosses old answer new = IsAt (state_of old) new
     × (crossed_at new ≡ crossed_at old + crossed_by answer) × OnEnded answer (SawEndAt new)
 
@@ -228,8 +229,8 @@ module _ {T I H E : Type 0} where
   -- What the doing of an action does with the handle: its answer, whether a note was taken, and
   -- where the handle is then. A wait is registered. begun says where the handle may be once a
   -- session began.
-  abbrev pub Does : (State → Type 0) → OwnerAction E → Place T I H → OwnerAnswer E → Bool
-      → Place T I H → Type 0 → Type 0
+  abbrev pub Does : (State → Type 0) → OwnerAction E → HandleState T I H → OwnerAnswer E → Bool
+      → HandleState T I H → Type 0 → Type 0
   Does begun act.Begin old by.Begun false new armed =
       ((state : State) → begun state → IsAt state new) × (crossed_at new ≡ 0)
   Does begun act.Begin old (by.Refused why) false new armed = new ≡ old
@@ -251,7 +252,7 @@ module _ {T I H E : Type 0} where
   -- What crosses a pipe in a poll before which so many had crossed that in which it goes on: no
   -- more yet, where it is still to be asked; what the reply tells, once it has one. A poll that
   -- begins a session of its own, or stops another's, goes on in none.
-  abbrev pub Crossing : PollCall → State → OwnerAction E → Bool → Place T I H → ℕ → Type 0
+  abbrev pub Crossing : PollCall → State → OwnerAction E → Bool → HandleState T I H → ℕ → Type 0
   Crossing asked state act.Begin at_end place before = before ≡ 0
   Crossing asked state act.Close at_end place before = before ≡ 0
   Crossing asked state act.PollSlot at_end place before = (before ≡ 0) ⊎ SawEnd asked state at_end
@@ -264,7 +265,8 @@ module _ {T I H E : Type 0} where
   -- What a poll that began with an idle handle keeps: the handle is as it was where a session is to
   -- begin or was refused, and a session gives it back at its end alone, after which no other
   -- begins.
-  abbrev pub KeepsFirst : PollCall → State → OwnerAction E → Bool → Place T I H → Place T I H
+  abbrev pub KeepsFirst : PollCall → State → OwnerAction E → Bool → HandleState T I H
+      → HandleState T I H
       → Type 0
   KeepsFirst asked state act.Begin at_end place first = place ≡ first
   KeepsFirst asked state act.Close at_end place first = ⊥

@@ -189,7 +189,7 @@ impl<T: Write + Drop, I: Drop, J: Job + Carries<WriteJob<T, H>>, H: Runtime> Len
 
 /// A session of items, and the one that came.
 #[derive(Drop)]
-pub(crate) struct ToStream<I: Drop> {
+pub(crate) struct ToItem<I: Drop> {
     pub item: Option<I>,
 }
 
@@ -198,7 +198,7 @@ impl<T: Iterator<Item = I> + Drop, I: Drop, J: Job + Carries<ItemJob<T, I, H>>, 
     I,
     J,
     H,
-> for ToStream<I> {
+> for ToItem<I> {
     ghost use Rattle.blocking_unblock.specs.Lenders.{stream_keeps};
 
     ghost begins = { λ _ state. (state ≡ Lent Streaming Open) × ((at : T) → T.can_next at) };
@@ -294,11 +294,11 @@ pub(crate) enum OperationStage<F: Drop, S: Drop, R: Drop> {
 
 /// An operation on the handle, or what is left of it.
 #[derive(Drop)]
-pub(crate) struct ToOperate<F: CallOn<T, Out: Drop> + Drop, T: Drop, H: Wait + Copy> {
+pub(crate) struct ToOp<F: CallOn<T, Out: Drop> + Drop, T: Drop, H: Wait + Copy> {
     pub stage: OperationStage<F, ResultSeat<F, T, H>, F::Out>,
 }
 
-impl<F: CallOn<T, Out: Drop> + Drop, T: Drop, H: Wait + Copy> ToOperate<F, T, H> {
+impl<F: CallOn<T, Out: Drop> + Drop, T: Drop, H: Wait + Copy> ToOp<F, T, H> {
     ghost use Rattle.blocking_unblock.specs.Lenders.{has_begun, is_over};
 
     /// Whether nothing is waited for any more.
@@ -322,7 +322,7 @@ impl<
     I: Drop,
     J: Job + Carries<OpJob<F, T, H>>,
     H: Runtime,
-> Lends<T, I, J, H> for ToOperate<F, T, H> {
+> Lends<T, I, J, H> for ToOp<F, T, H> {
     ghost use Rattle.blocking_unblock.specs.Lenders.{IsGiven, operation_keeps};
 
     ghost begins = { λ brought state. (state ≡ Lent Operating Open) × IsGiven brought.stage };

@@ -1,9 +1,9 @@
 //! Readers, writers, iterators, seekers and whatever is operated on, which are lent to a pool and asked by polls.
 #![tactic(auto)]
 
+mod handle_state;
 mod lend;
 mod new_session;
-mod place;
 mod session;
 mod spare;
 mod take_back;

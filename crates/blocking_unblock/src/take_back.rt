@@ -40,7 +40,7 @@ impl<T: Drop, I: Drop, J: Job, H: Runtime> Future for IntoInner<T, I, J, H> {
     ghost use Rattle.futures.specs.Task.{IsArmed, Keeps};
     ghost use Rattle.std.specs.Prelude.{IsSome, IsNone, IfSome};
     ghost use Rattle.blocking_core.specs.declared.unblock.PollCall.TheVariants.{IntoInner as TakeBackCall};
-    ghost use Rattle.blocking_unblock.specs.declared.place.Place.TheVariants.{Idle as AtOwner};
+    ghost use Rattle.blocking_unblock.specs.declared.handle_state.HandleState.TheVariants.{Idle as AtOwner};
     ghost use Rattle.blocking_unblock.specs.Owners.{Follows, KeepsAtOnce, reply_of_get};
 
     type Output = T;

@@ -5,8 +5,8 @@ ghost use Rattle.futures.specs.Task.{IsArmed, Keeps};
 ghost use Rattle.blocking_unblock_jobs.specs.SeekJobs.{position_of};
 ghost use Rattle.blocking_unblock.specs.Owners.{IsHeld};
 
-use crate::lend::{Capacity, Lends, ToNobody, ToOperate, ToRead, ToSeek, ToStream, ToWrite};
-use crate::place::Place;
+use crate::handle_state::HandleState;
+use crate::lend::{Capacity, Lends, ToItem, ToNobody, ToOp, ToRead, ToSeek, ToWrite};
 use crate::session::Back;
 use crate::spare::Spare;
 use crate::take_back::IntoInner;
@@ -34,12 +34,13 @@ use std::{fmt, io, mem};
 /// drops the handle with the session's job. It drops that of a job that waits when it is next taken, that of one that runs when it comes to
 /// its end. Where no worker is left and none can be started, that job stays queued. Where its client is at its limit of running jobs it
 /// isn't taken before another job of that client is over or waits. A job that reads or gives items makes one more call at most. One that
-/// writes and runs writes all that it was given, and flushes. One that waits has written all, and is dropped unflushed unless a worker
-/// takes it first. What a queued one had to write is lost. A seek or an operation under way is made.
+/// writes writes all that it was given, and flushes. One that waits has written all, and is dropped unflushed unless a worker takes it
+/// first. What one had to write that is queued is lost, and what one had that was about to wait and was woken by an earlier call. A seek or
+/// an operation under way is made.
 ///
 /// The memory of a session that read or wrote is kept for the next one of its kind. It is that of its pipe and its pieces, of which no more
-/// was touched than was used, but for one piece of a reader, which is cleared first. It is given back where a session of another kind begins or one is refused, and with the owner: by
-/// [`Unblock::into_inner`], a close, or a drop.
+/// was touched than was used, but for one piece of a reader, which is cleared first. It is given back where a session of another kind begins
+/// or one is refused, and with the owner: by [`Unblock::into_inner`], a close, or a drop.
 ///
 /// A handle is moved as it is, with its owner and with its job, so one that holds a buffer of its own is best lent in a `Box`.
 ///
@@ -64,7 +65,7 @@ use std::{fmt, io, mem};
 /// }
 /// ```
 pub struct Unblock<T: Drop, I: Drop, J: Job, H: Runtime> {
-    place: Place<T, I, H>,
+    place: HandleState<T, I, H>,
     // The memory of the last session, for the next one of its kind.
     spare: Spare,
     capacity: Capacity,
@@ -74,7 +75,7 @@ pub struct Unblock<T: Drop, I: Drop, J: Job, H: Runtime> {
 }
 
 impl<T: Drop, I: Drop, J: Job, H: Runtime> Unblock<T, I, J, H> {
-    ghost use Rattle.blocking_unblock.specs.declared.place.Place.TheVariants.{Idle as AtOwner};
+    ghost use Rattle.blocking_unblock.specs.declared.handle_state.HandleState.TheVariants.{Idle as AtOwner};
     ghost use Rattle.blocking_unblock.specs.Owners.{IsClosed};
 
     /// The owner of a handle, whose sessions have pipes for 8,388,608 bytes or 8192 items.
@@ -92,7 +93,7 @@ impl<T: Drop, I: Drop, J: Job, H: Runtime> Unblock<T, I, J, H> {
         ensures items { result.capacity.items ≡ 8192 }
     {
         Unblock {
-            place: Place::Idle(handle),
+            place: HandleState::Idle(handle),
             spare: Spare::Nothing,
             capacity: Capacity::new(DEFAULT_BYTES, DEFAULT_ITEMS),
             executor,
@@ -114,7 +115,7 @@ impl<T: Drop, I: Drop, J: Job, H: Runtime> Unblock<T, I, J, H> {
         ensures items { result.capacity.items ≡ capacity }
     {
         Unblock {
-            place: Place::Idle(handle),
+            place: HandleState::Idle(handle),
             spare: Spare::Nothing,
             capacity: Capacity::new(capacity, capacity),
             executor,
@@ -158,7 +159,7 @@ impl<T: Drop, I: Drop, J: Job, H: Runtime> Unblock<T, I, J, H> {
     pub fn is_closed(&self) -> bool
         ensures { (result ≡ true) ↔ IsClosed self.now.place }
     {
-        matches!(self.place, Place::Closed)
+        matches!(self.place, HandleState::Closed)
     }
 }
 
@@ -246,9 +247,9 @@ impl<T: Drop, I: Drop, J: Job, H: Runtime> Drop for Unblock<T, I, J, H> {
 impl<T: Debug + Drop, I: Drop, J: Job, H: Runtime> Debug for Unblock<T, I, J, H> {
     fn fmt<W: fmt::Write>(&self, f: &mut Formatter<W>) -> fmt::Result {
         match &self.place {
-            Place::Idle(handle) => f.debug_struct("Unblock").field("io", handle).finish(),
-            Place::Lent(_) => f.write_str("Unblock { io: <blocked> }"),
-            Place::Closed => f.write_str("Unblock { io: <closed> }"),
+            HandleState::Idle(handle) => f.debug_struct("Unblock").field("io", handle).finish(),
+            HandleState::Lent(_) => f.write_str("Unblock { io: <blocked> }"),
+            HandleState::Closed => f.write_str("Unblock { io: <closed> }"),
         }
     }
 }
@@ -256,7 +257,7 @@ impl<T: Debug + Drop, I: Drop, J: Job, H: Runtime> Debug for Unblock<T, I, J, H>
 // What a poll does with the handle, one action each.
 impl<T: Drop, I: Drop, J: Job, H: Runtime> Unblock<T, I, J, H> {
     ghost use Rattle.blocking_core.specs.declared.unblock.PollCall.TheVariants.{GetMut as GetMutCall, Close as CloseCall};
-    ghost use Rattle.blocking_unblock.specs.declared.place.Place.TheVariants.{Idle as AtOwner};
+    ghost use Rattle.blocking_unblock.specs.declared.handle_state.HandleState.TheVariants.{Idle as AtOwner};
     ghost use Rattle.blocking_core.specs.declared.unblock.State.{State as StateSeen};
     ghost use Rattle.blocking_core.specs.declared.unblock.State.TheVariants.{Idle, Lent};
     ghost use Rattle.blocking_core.specs.declared.unblock.SessionKind.TheVariants.{Reading, Writing, Streaming};
@@ -280,17 +281,17 @@ impl<T: Drop, I: Drop, J: Job, H: Runtime> Unblock<T, I, J, H> {
         ensures client { IsFor self.old.executor.client self.new.place }
         ensures rest { (self.new.capacity ≡ self.old.capacity) × (self.new.executor ≡ self.old.executor) }
     {
-        let Place::Idle(handle) = mem::replace(&mut self.place, Place::Closed) else {
+        let HandleState::Idle(handle) = mem::replace(&mut self.place, HandleState::Closed) else {
             unreachable!()
         };
         let spare = mem::replace(&mut self.spare, Spare::Nothing);
         match brought.lend(&self.executor, self.capacity, spare, handle) {
             Ok(session) => {
-                self.place = Place::Lent(session);
+                self.place = HandleState::Lent(session);
                 OwnerAnswer::Begun
             }
             Err(Refused { back, why }) => {
-                self.place = Place::Idle(back);
+                self.place = HandleState::Idle(back);
                 OwnerAnswer::Refused(why)
             }
         }
@@ -301,7 +302,7 @@ impl<T: Drop, I: Drop, J: Job, H: Runtime> Unblock<T, I, J, H> {
         ensures does { Does (λ _. Unit {0}) CloseAction self.old.place result.0 (has result.1) self.new.place (Unit {0}) }
         ensures rest { (self.new.capacity ≡ self.old.capacity) × (self.new.executor ≡ self.old.executor) }
     {
-        let Place::Lent(session) = &mut self.place else {
+        let HandleState::Lent(session) = &mut self.place else {
             unreachable!()
         };
         let note = session.close();
@@ -321,7 +322,7 @@ impl<T: Drop, I: Drop, J: Job, H: Runtime> Unblock<T, I, J, H> {
         ensures rest { (self.new.capacity ≡ self.old.capacity) × (self.new.executor ≡ self.old.executor) }
         ensures kept { Keeps cx.old cx.new }
     {
-        let Place::Lent(session) = &mut self.place else {
+        let HandleState::Lent(session) = &mut self.place else {
             unreachable!()
         };
         session.drain(cx, out)
@@ -339,7 +340,7 @@ impl<T: Drop, I: Drop, J: Job, H: Runtime> Unblock<T, I, J, H> {
         ensures rest { (self.new.capacity ≡ self.old.capacity) × (self.new.executor ≡ self.old.executor) }
         ensures kept { Keeps cx.old cx.new }
     {
-        let Place::Lent(session) = &mut self.place else {
+        let HandleState::Lent(session) = &mut self.place else {
             unreachable!()
         };
         session.fill(cx, bytes)
@@ -356,7 +357,7 @@ impl<T: Drop, I: Drop, J: Job, H: Runtime> Unblock<T, I, J, H> {
         ensures rest { (self.new.capacity ≡ self.old.capacity) × (self.new.executor ≡ self.old.executor) }
         ensures kept { Keeps cx.old cx.new }
     {
-        let Place::Lent(session) = &mut self.place else {
+        let HandleState::Lent(session) = &mut self.place else {
             unreachable!()
         };
         match session.receive(cx) {
@@ -378,7 +379,7 @@ impl<T: Drop, I: Drop, J: Job, H: Runtime> Unblock<T, I, J, H> {
         ensures rest { (self.new.capacity ≡ self.old.capacity) × (self.new.executor ≡ self.old.executor) }
         ensures kept { Keeps cx.old cx.new }
     {
-        let Place::Lent(session) = &mut self.place else {
+        let HandleState::Lent(session) = &mut self.place else {
             unreachable!()
         };
         match session.poll_back(cx) {
@@ -389,7 +390,7 @@ impl<T: Drop, I: Drop, J: Job, H: Runtime> Unblock<T, I, J, H> {
                     tools,
                 },
             ) => {
-                let place = mem::replace(&mut self.place, Place::Idle(handle));
+                let place = mem::replace(&mut self.place, HandleState::Idle(handle));
                 self.spare = place.into_spare(tools);
                 answer
             }
@@ -426,7 +427,7 @@ impl<T: Drop, I: Drop, J: Job, H: Runtime> Unblock<T, I, J, H> {
                 Some(seat) => (OwnerAnswer::WaitsInSlot(seat), None),
             },
             OwnerAction::DropHandle => {
-                self.place = Place::Closed;
+                self.place = HandleState::Closed;
                 self.spare = Spare::Nothing;
                 (OwnerAnswer::Dropped, None)
             }
@@ -714,7 +715,7 @@ impl<T: Iterator<Item = I> + Drop, I: Drop, J: Job + Carries<ItemJob<T, I, H>>, 
     {
         // (an item that is there is given without the machine, which would come to that)
         // stream: PollAgain
-        if let Place::Lent(session) = &mut self.place {
+        if let HandleState::Lent(session) = &mut self.place {
             if let Some((item, note)) = session.try_receive() {
                 if let Some(note) = note {
                     // stream: WakeJob
@@ -723,7 +724,7 @@ impl<T: Iterator<Item = I> + Drop, I: Drop, J: Job + Carries<ItemJob<T, I, H>>, 
                 return Poll::Ready(Some(Ok(item)));
             }
         }
-        let mut brought = ToStream { item: None };
+        let mut brought = ToItem { item: None };
         match self.poll(PollCall::Next, cx, &mut brought, &mut [], &[]) {
             Poll::Pending => Poll::Pending,
             Poll::Ready(Reply::Item) => match brought.item {

@@ -5,7 +5,7 @@ ghost use Rattle.futures.specs.Task.{Covers, Keeps};
 ghost use Rattle.blocking_unblock.specs.Owners.{IsClosed, is_operating};
 ghost use Rattle.blocking_unblock.specs.Lenders.{has_begun, is_over, given_in, OperationGives};
 
-use crate::lend::{OperationStage, ToOperate};
+use crate::lend::{OperationStage, ToOp};
 use crate::unblock::Unblock;
 use blocking_core::pool::{Carries, Job, Refused};
 use blocking_core::task::CallOn;
@@ -27,7 +27,7 @@ pub struct WithMut<
     H: Runtime,
 > {
     owner: &'a mut Unblock<T, I, J, H>,
-    operation: ToOperate<F, T, H>,
+    operation: ToOp<F, T, H>,
     ghost open: { IsClosed owner.now.place → ⊥ },
     ghost begun: { has_begun operation.stage ≡ true → is_operating owner.now.place ≡ true },
 }
@@ -51,7 +51,7 @@ impl<
     {
         WithMut {
             owner,
-            operation: ToOperate {
+            operation: ToOp {
                 stage: OperationStage::Given(operation),
             },
         }

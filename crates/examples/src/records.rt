@@ -1,18 +1,41 @@
-//! A file of records of one length: each is sought and read, while this thread waits for no disk.
+//! A file of records of one length: it is asked for its length, and each record is sought and read, while this thread waits for no disk.
 use crate::host::Host;
 use anyhow::Result;
-use blocking::{AsyncReadExt, AsyncSeekExt, Executor, Jobs, Unused};
+use blocking::{AsyncReadExt, AsyncSeekExt, CallOn, Executor, Jobs, OpJob, Unblock, Unused};
 use blocking_anytime::{Open, OpenReader};
 use futures::executor::block_on;
 use std::env::Env;
 use std::fs::{File, Files};
 use std::io::{Read, Seek, SeekFrom};
-use std::{env, fs};
+use std::{env, fs, io};
 
 const RECORDS: &str = "ash  birchelm  ";
 
 // How many bytes a record has.
 const LENGTH: usize = 5;
+
+// Asks a file that is lent how many bytes it has.
+#[derive(Drop)]
+struct Length;
+
+impl CallOn<File> for Length {
+    type Out = io::Result<u64>;
+
+    ghost may_give = { λ _. Unit {0} };
+
+    fn call_on(self, file: &mut File) -> io::Result<u64> {
+        Ok(file.metadata()?.len())
+    }
+}
+
+// Prints how many records a file has.
+fn show_count<H: Host>(rt: H, file: File) -> Result<()> {
+    let executor: Executor<OpJob<Length, File, H>, H> = Executor::new(rt, Some("1"))?;
+    let mut owner: Unblock<File, (), OpJob<Length, File, H>, H> = Unblock::new(executor, file);
+    let length = block_on(&rt, owner.with_mut(Length))???;
+    println!(rt; "records: {}", length / LENGTH as u64)?;
+    Ok(())
+}
 
 // The executor's jobs: those that read from a handle, and those that move it.
 type Access<T, H> = Jobs<H, Unused, T, Unused, Unused, T>;
@@ -40,11 +63,12 @@ fn show_two<T: Read + Seek + Drop + Send + 'static, H: Host>(rt: H, file: T) -> 
     show_record(rt, &mut file, 1)
 }
 
-/// Writes a file of records, and prints two of them.
+/// Writes a file of records, and prints how many they are, and two of them.
 pub(crate) fn show_records<H: Host + Files<File = File> + Env>(rt: H) -> Result<()> {
     let path = env::temp_dir(&rt)?.join(rt.alloc(), "furuvaite-records")?;
     fs::write(&rt, &path, RECORDS)?;
-    let file = File::open(&rt, &path)?;
+    let (asked, file) = (File::open(&rt, &path)?, File::open(&rt, &path)?);
     fs::remove_file(&rt, &path)?;
+    show_count(rt, asked)?;
     show_two(rt, file)
 }

@@ -60,7 +60,7 @@ fn run<H: Host + Print + Eprint>(rt: H, system: HostRuntime) -> Result<bool> {
     Ok(true)
 }
 
-// Copies a file to another, which isn't the same, and tells how many bytes that were.
+// Copies a file to another, which isn't the same (to create it would empty it), and tells how many bytes that were.
 fn copy<H: Host + Eprint>(
     rt: H,
     system: HostRuntime,
@@ -68,13 +68,10 @@ fn copy<H: Host + Eprint>(
     is_synced: bool,
 ) -> Result<()> {
     let from = File::open(&system, from.as_str()).context("what is to be copied")?;
-    // (to create it would empty it)
     if let Ok(target) = fs::metadata(&system, to.as_str()) {
         let source = from.metadata()?;
-        ensure!(
-            (source.dev(), source.ino()) != (target.dev(), target.ino()),
-            "the copy: it is the same file"
-        );
+        let is_same = (source.dev(), source.ino()) == (target.dev(), target.ino());
+        ensure!(!is_same, "the copy: it is the same file");
     }
     let to = File::create(&system, to.as_str()).context("the copy")?;
     let copied = cp::copy(rt, from, to, is_synced)?;

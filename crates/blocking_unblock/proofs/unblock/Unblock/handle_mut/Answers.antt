@@ -1,6 +1,6 @@
 use Rattle.std.proofs.Common.{refl}
 use Rattle.blocking_unblock.specs.Owners.{is_lost}
-use Rattle.blocking_unblock.specs.declared.place.Place.TheVariants.{Idle as AtOwner}
+use Rattle.blocking_unblock.specs.declared.handle_state.HandleState.TheVariants.{Idle as AtOwner}
 use Rattle.blocking_unblock.proofs.Loans.{same, lent}
 use Rattle.blocking_unblock.proofs.unblock.Unblock.handle_mut.Goals as goal
 

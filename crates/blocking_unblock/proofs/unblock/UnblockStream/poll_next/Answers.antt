@@ -1,5 +1,5 @@
 use Rattle.std.proofs.Common.{rules}
-use Rattle.blocking_unblock.specs.declared.place.Place.TheVariants as place
+use Rattle.blocking_unblock.specs.declared.handle_state.HandleState.TheVariants as place
 use Rattle.blocking_unblock.proofs.Quick.{noted, quick}
 use Rattle.blocking_unblock.proofs.unblock.UnblockStream.poll_next.Goals as goal
 

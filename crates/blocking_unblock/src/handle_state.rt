@@ -13,7 +13,7 @@ use std::sync::Wait;
 
 /// Where the handle is.
 #[derive(Drop)]
-pub(crate) enum Place<T: Drop, I: Drop, H: Wait + Copy> {
+pub(crate) enum HandleState<T: Drop, I: Drop, H: Wait + Copy> {
     /// With its owner.
     Idle(T),
     /// With the job of a session.
@@ -22,14 +22,14 @@ pub(crate) enum Place<T: Drop, I: Drop, H: Wait + Copy> {
     Closed,
 }
 
-impl<T: Drop, I: Drop, H: Wait + Copy> Place<T, I, H> {
+impl<T: Drop, I: Drop, H: Wait + Copy> HandleState<T, I, H> {
     pub(crate) fn state(&self) -> State
         ensures { result ≡ state_of self.now }
     {
         match self {
-            Place::Idle(_) => State::Idle,
-            Place::Lent(session) => State::Lent(session.kind(), session.owner_end()),
-            Place::Closed => State::Closed,
+            HandleState::Idle(_) => State::Idle,
+            HandleState::Lent(session) => State::Lent(session.kind(), session.owner_end()),
+            HandleState::Closed => State::Closed,
         }
     }
 
@@ -40,14 +40,14 @@ impl<T: Drop, I: Drop, H: Wait + Copy> Place<T, I, H> {
         ensures held { is_lost self.new ≡ is_lost self.old }
     {
         match self {
-            Place::Lent(session) => session.let_go(),
-            Place::Idle(_) | Place::Closed => None,
+            HandleState::Lent(session) => session.let_go(),
+            HandleState::Idle(_) | HandleState::Closed => None,
         }
     }
 
     /// Sets the mark of the session, if there is one: its owner is gone.
     pub(crate) fn mark(&self) {
-        if let Place::Lent(session) = self {
+        if let HandleState::Lent(session) = self {
             session.mark();
         }
     }
@@ -58,16 +58,16 @@ impl<T: Drop, I: Drop, H: Wait + Copy> Place<T, I, H> {
         ensures handle { option_copied_mut result ≡ handle_in self.old }
     {
         match self {
-            Place::Idle(handle) => Some(handle),
-            Place::Lent(_) | Place::Closed => None,
+            HandleState::Idle(handle) => Some(handle),
+            HandleState::Lent(_) | HandleState::Closed => None,
         }
     }
 
     /// What is left of a session whose handle came back, with what its job worked with.
     pub(crate) fn into_spare(self, tools: Tools<H>) -> Spare {
         match self {
-            Place::Lent(session) => session.into_spare(tools),
-            Place::Idle(_) | Place::Closed => Spare::Nothing,
+            HandleState::Lent(session) => session.into_spare(tools),
+            HandleState::Idle(_) | HandleState::Closed => Spare::Nothing,
         }
     }
 
@@ -76,12 +76,12 @@ impl<T: Drop, I: Drop, H: Wait + Copy> Place<T, I, H> {
         ensures { result ≡ handle_in self }
     {
         match self {
-            Place::Idle(handle) => Some(handle),
-            Place::Lent(session) => {
+            HandleState::Idle(handle) => Some(handle),
+            HandleState::Lent(session) => {
                 session.mark();
                 None
             }
-            Place::Closed => None,
+            HandleState::Closed => None,
         }
     }
 }
