@@ -34,7 +34,7 @@ fn main(rt: HostRuntime) -> ExitCode {
     ExitCode::from(status)
 }
 
-// Whether the one word is `copy`.
+// Whether the one word is `copy`, which `command` takes for a wrong command line, since a copy has no contract.
 fn is_copy(words: &[Option<String>]) -> bool {
     match words {
         [Some(word)] => word.as_str() == "copy",
