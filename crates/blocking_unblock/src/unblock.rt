@@ -34,9 +34,9 @@ use std::{fmt, io, mem};
 /// drops the handle with the session's job. It drops that of a job that waits when it is next taken, that of one that runs when it comes to
 /// its end. Where no worker is left and none can be started, that job stays queued. Where its client is at its limit of running jobs it
 /// isn't taken before another job of that client is over or waits. A job that reads or gives items makes one more call at most. One that
-/// writes writes all that it was given, and flushes. One that waits has written all, and is dropped unflushed unless a worker takes it
-/// first. What one had to write that is queued is lost, and what one had that was about to wait and was woken by an earlier call. A seek or
-/// an operation under way is made.
+/// runs and writes writes all that it was given, and flushes. One that waits has written all, and is dropped unflushed unless a worker takes
+/// it first. What a queued one had to write is lost. One that is about to wait, and was woken by an earlier call, counts as queued. A seek
+/// or an operation under way is made.
 ///
 /// The memory of a session that read or wrote is kept for the next one of its kind. It is that of its pipe and its pieces, of which no more
 /// was touched than was used, but for one piece of a reader, which is cleared first. It is given back where a session of another kind begins
