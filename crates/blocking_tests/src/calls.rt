@@ -78,7 +78,7 @@ fn sum_of<H: Host + Files>(
     limit: Option<&str>,
     count: u64,
     is_third_cancelled: bool,
-) -> io::Result<(u64, bool)> {
+) -> Result<(u64, bool), Fail> {
     let executor = Executor::new(rt, limit)?;
     let tasks = begin(&rt, &executor, count)?;
     let sum = sum(&rt, tasks, is_third_cancelled)?;
@@ -194,9 +194,9 @@ fn late_rounds<J: Job + Carries<CallJob<Meet, H>>, H: Host>(
     Ok(Some(late))
 }
 
-fn late_rounds_of_two_workers<H: Host>(rt: H) -> io::Result<Option<u32>> {
+fn late_rounds_of_two_workers<H: Host>(rt: H) -> Result<Option<u32>, Fail> {
     let executor: Executor<CallJob<Meet, H>, H> = Executor::new(rt, Some("2"))?;
-    late_rounds(rt, &executor)
+    Ok(late_rounds(rt, &executor)?)
 }
 
 // (the calls of a round find their workers idle, asleep or looking, as the round before left them)

@@ -110,7 +110,7 @@ impl<H: Host> Client<H> {
     }
 }
 
-fn call_is_answered<H: Host>(rt: H) -> io::Result<bool> {
+fn call_is_answered<H: Host>(rt: H) -> Result<bool, Fail> {
     let mut client = Client::new(rt, 7)?;
     let executor: Callers<H> = Executor::new(rt, Some("4"))?;
     Ok(client.begin(&executor, 1, 0)? && client.is_served()?)
@@ -135,10 +135,10 @@ fn most_of_two<J: Job + Carries<CallJob<Sleep<H>, H>>, H: Host>(
 }
 
 // The same at client limit 1.
-fn most_at_limit_one<H: Host>(rt: H) -> io::Result<Option<(u32, u32)>> {
+fn most_at_limit_one<H: Host>(rt: H) -> Result<Option<(u32, u32)>, Fail> {
     let executor: Callers<H> = Executor::new(rt, Some("4"))?;
     set_client_limit(&executor, Some(1));
-    most_of_two(rt, &executor)
+    Ok(most_of_two(rt, &executor)?)
 }
 
 #[test]
@@ -193,12 +193,12 @@ fn nanos_beside_queued_calls<J: Job + Carries<CallJob<Sleep<H>, H>>, H: Host + s
 }
 
 // The same of a new pool of four workers. None where there aren't four, too.
-fn nanos_of_four_workers<H: Host + std::fs::Files>(rt: H) -> io::Result<Option<u64>> {
+fn nanos_of_four_workers<H: Host + std::fs::Files>(rt: H) -> Result<Option<u64>, Fail> {
     let executor: Callers<H> = Executor::new(rt, Some("4"))?;
     if !has_four_workers(rt, &executor)? {
         return Ok(None);
     }
-    nanos_beside_queued_calls(rt, &executor)
+    Ok(nanos_beside_queued_calls(rt, &executor)?)
 }
 
 #[test]

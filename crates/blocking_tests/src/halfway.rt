@@ -130,8 +130,8 @@ where
     Ok(None)
 }
 
-fn left_halfway<H: Host>(rt: H) -> io::Result<Option<u32>> {
-    first_that_stays::<Halves<H>, H>(rt, Executor::new(rt, Some("2"))?)
+fn left_halfway<H: Host>(rt: H) -> Result<Option<u32>, Fail> {
+    Ok(first_that_stays::<Halves<H>, H>(rt, Executor::new(rt, Some("2"))?)?)
 }
 
 #[test]

@@ -168,8 +168,8 @@ where
     ])
 }
 
-fn all_are_carried<H: Host>(rt: H) -> io::Result<[bool; 6]> {
-    carries_each::<All<H>, H>(rt, Executor::new(rt, Some("1"))?)
+fn all_are_carried<H: Host>(rt: H) -> Result<[bool; 6], Fail> {
+    Ok(carries_each::<All<H>, H>(rt, Executor::new(rt, Some("1"))?)?)
 }
 
 #[test]

@@ -209,15 +209,15 @@ fn all_are_woken<H: Host>(
     rt: H,
     jobs: &Executor<Waiter, H>,
     track: &Arc<Track>,
-) -> io::Result<bool> {
+) -> Result<bool, Fail> {
     let numbers = add_all(rt, jobs, track)?;
     let (first, second) = pair(rt, jobs, &numbers, track)?;
     let threads = Executor::<CallJob<Wakes<Waiter, H>, H>, H>::new(rt, Some("2"))?;
-    wake_all(&rt, &threads, first, second)
+    Ok(wake_all(&rt, &threads, first, second)?)
 }
 
 // Whether all are woken, how many are queued then, and how many steps the jobs have taken once all are over.
-fn woken<H: Host>(rt: H, track: &Arc<Track>) -> io::Result<(bool, usize, Option<usize>)> {
+fn woken<H: Host>(rt: H, track: &Arc<Track>) -> Result<(bool, usize, Option<usize>), Fail> {
     let jobs = Executor::<Waiter, H>::new(rt, Some("1"))?;
     let all_are_woken = all_are_woken(rt, &jobs, track)?;
     let queued = jobs.counts().queued;
