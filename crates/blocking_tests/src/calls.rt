@@ -10,7 +10,6 @@ use crate::visit::Stop::InCall;
 use blocking::{CallJob, Carries, Executor, Host, Job, Task, unblock};
 use blocking_core::task::Call;
 use futures::executor::block_on;
-use std::fs::Files;
 use std::io;
 use std::sync::Arc;
 use std::sync::atomic::{AtomicU64, Ordering};
@@ -72,28 +71,20 @@ fn sum<H: Host>(rt: &H, tasks: Tasks<H>, is_third_cancelled: bool) -> io::Result
     Ok(sum)
 }
 
-// The same of so many calls on a new pool, and whether its workers come to be gone.
-fn sum_of<H: Host + Files>(
-    rt: H,
-    limit: Option<&str>,
-    count: u64,
-    is_third_cancelled: bool,
-) -> Result<(u64, bool), Fail> {
-    let executor = Executor::new(rt, limit)?;
-    let tasks = begin(&rt, &executor, count)?;
-    let sum = sum(&rt, tasks, is_third_cancelled)?;
-    Ok((sum, come_to_be(&rt, 0)?))
-}
-
 #[test]
 fn hundred_calls_give_hundred_answers(rt: HostRuntime) -> Result<(), Fail> {
-    assert_eq!(rt; sum_of(rt, None, 100, false)?, (5050, true));
+    let executor = Executor::new(rt, None)?;
+    let tasks = begin(&rt, &executor, 100)?;
+    assert_eq!(rt; sum(&rt, tasks, false)?, 5050);
     Ok(())
 }
 
 #[test]
 fn thousand_calls_of_which_every_third_is_cancelled(rt: HostRuntime) -> Result<(), Fail> {
-    assert_eq!(rt; sum_of(rt, Some("4"), 1000, true)?, (333_333, true));
+    let executor = Executor::new(rt, Some("4"))?;
+    let tasks = begin(&rt, &executor, 1000)?;
+    assert_eq!(rt; sum(&rt, tasks, true)?, 333_333);
+    assert!(rt; come_to_be(&rt, 0)?);
     Ok(())
 }
 
@@ -194,15 +185,11 @@ fn late_rounds<J: Job + Carries<CallJob<Meet, H>>, H: Host>(
     Ok(Some(late))
 }
 
-fn late_rounds_of_two_workers<H: Host>(rt: H) -> Result<Option<u32>, Fail> {
-    let executor: Executor<CallJob<Meet, H>, H> = Executor::new(rt, Some("2"))?;
-    Ok(late_rounds(rt, &executor)?)
-}
-
 // (the calls of a round find their workers idle, asleep or looking, as the round before left them)
 #[test]
 fn two_calls_run_at_once(rt: HostRuntime) -> Result<(), Fail> {
-    let late = late_rounds_of_two_workers(rt)?;
+    let executor: Executor<CallJob<Meet, HostRuntime>, HostRuntime> = Executor::new(rt, Some("2"))?;
+    let late = late_rounds(rt, &executor)?;
     assert!(rt; late.is_some_and(|late| late <= MAY_BE_LATE));
     Ok(())
 }

@@ -110,15 +110,12 @@ impl<H: Host> Client<H> {
     }
 }
 
-fn call_is_answered<H: Host>(rt: H) -> Result<bool, Fail> {
-    let mut client = Client::new(rt, 7)?;
-    let executor: Callers<H> = Executor::new(rt, Some("4"))?;
-    Ok(client.begin(&executor, 1, 0)? && client.is_served()?)
-}
-
 #[test]
 fn call_of_a_client_answers(rt: HostRuntime) -> Result<(), Fail> {
-    assert!(rt; call_is_answered(rt)?);
+    let executor: Callers<HostRuntime> = Executor::new(rt, Some("4"))?;
+    let mut client = Client::new(rt, 7)?;
+    assert!(rt; client.begin(&executor, 1, 0)?);
+    assert!(rt; client.is_served()?);
     Ok(())
 }
 
@@ -134,16 +131,11 @@ fn most_of_two<J: Job + Carries<CallJob<Sleep<H>, H>>, H: Host>(
     Ok(is_served.then_some((first.most(), second.most())))
 }
 
-// The same at client limit 1.
-fn most_at_limit_one<H: Host>(rt: H) -> Result<Option<(u32, u32)>, Fail> {
-    let executor: Callers<H> = Executor::new(rt, Some("4"))?;
-    set_client_limit(&executor, Some(1));
-    Ok(most_of_two(rt, &executor)?)
-}
-
 #[test]
 fn one_call_of_each_client_runs_at_a_time(rt: HostRuntime) -> Result<(), Fail> {
-    assert_eq!(rt; most_at_limit_one(rt)?, Some((1, 1)));
+    let executor: Callers<HostRuntime> = Executor::new(rt, Some("4"))?;
+    set_client_limit(&executor, Some(1));
+    assert_eq!(rt; most_of_two(rt, &executor)?, Some((1, 1)));
     Ok(())
 }
 
@@ -192,18 +184,11 @@ fn nanos_beside_queued_calls<J: Job + Carries<CallJob<Sleep<H>, H>>, H: Host + s
     Ok(is_kept.then_some(nanos))
 }
 
-// The same of a new pool of four workers. None where there aren't four, too.
-fn nanos_of_four_workers<H: Host + std::fs::Files>(rt: H) -> Result<Option<u64>, Fail> {
-    let executor: Callers<H> = Executor::new(rt, Some("4"))?;
-    if !has_four_workers(rt, &executor)? {
-        return Ok(None);
-    }
-    Ok(nanos_beside_queued_calls(rt, &executor)?)
-}
-
 #[test]
 fn idle_workers_sleep_beside_jobs_that_are_not_ready(rt: HostRuntime) -> Result<(), Fail> {
-    let nanos = nanos_of_four_workers(rt)?;
+    let executor: Callers<HostRuntime> = Executor::new(rt, Some("4"))?;
+    assert!(rt; has_four_workers(rt, &executor)?);
+    let nanos = nanos_beside_queued_calls(rt, &executor)?;
     assert!(rt; nanos.is_some_and(|nanos| nanos < HARDLY_ANY));
     Ok(())
 }

@@ -166,24 +166,6 @@ fn wake_all<H: Host>(
     Ok(block_on(rt, first)? && block_on(rt, second)?)
 }
 
-// A thread's call.
-fn waking_call<J: Job, H: Host>(
-    jobs: &Executor<J, H>,
-    numbers: &Arc<Vec<JobNo>>,
-    track: &Arc<Track>,
-    own: Arc<AtomicUsize>,
-    other: Arc<AtomicUsize>,
-) -> io::Result<Wakes<J, H>> {
-    let (numbers, track) = (Arc::try_clone(numbers)?, Arc::try_clone(track)?);
-    Ok(Wakes {
-        jobs: jobs.try_clone()?,
-        numbers,
-        track,
-        own,
-        other,
-    })
-}
-
 // The two threads' calls.
 fn pair<J: Job, H: Host>(
     rt: H,
@@ -193,14 +175,20 @@ fn pair<J: Job, H: Host>(
 ) -> io::Result<(Wakes<J, H>, Wakes<J, H>)> {
     let one = Arc::new(rt.alloc(), AtomicUsize::new(0))?;
     let two = Arc::new(rt.alloc(), AtomicUsize::new(0))?;
-    let first = waking_call(
-        jobs,
-        numbers,
-        track,
-        Arc::try_clone(&one)?,
-        Arc::try_clone(&two)?,
-    )?;
-    let second = waking_call(jobs, numbers, track, two, one)?;
+    let first = Wakes {
+        jobs: jobs.try_clone()?,
+        numbers: Arc::try_clone(numbers)?,
+        track: Arc::try_clone(track)?,
+        own: Arc::try_clone(&one)?,
+        other: Arc::try_clone(&two)?,
+    };
+    let second = Wakes {
+        jobs: jobs.try_clone()?,
+        numbers: Arc::try_clone(numbers)?,
+        track: Arc::try_clone(track)?,
+        own: two,
+        other: one,
+    };
     Ok((first, second))
 }
 
@@ -210,28 +198,21 @@ fn all_are_woken<H: Host>(
     jobs: &Executor<Waiter, H>,
     track: &Arc<Track>,
 ) -> Result<bool, Fail> {
+    let threads = Executor::<CallJob<Wakes<Waiter, H>, H>, H>::new(rt, Some("2"))?;
     let numbers = add_all(rt, jobs, track)?;
     let (first, second) = pair(rt, jobs, &numbers, track)?;
-    let threads = Executor::<CallJob<Wakes<Waiter, H>, H>, H>::new(rt, Some("2"))?;
     Ok(wake_all(&rt, &threads, first, second)?)
-}
-
-// Whether all are woken, how many are queued then, and how many steps the jobs have taken once all are over.
-fn woken<H: Host>(rt: H, track: &Arc<Track>) -> Result<(bool, usize, Option<usize>), Fail> {
-    let jobs = Executor::<Waiter, H>::new(rt, Some("1"))?;
-    let all_are_woken = all_are_woken(rt, &jobs, track)?;
-    let queued = jobs.counts().queued;
-    track.may_go_on.store(true, Ordering::SeqCst);
-    Ok((all_are_woken, queued, track.steps_until_over(PARKED + 1)))
 }
 
 // (the one worker is inside the job that stops, so that no parked one is taken meanwhile)
 #[test]
 fn two_threads_wake_each_job_at_once(rt: HostRuntime) -> Result<(), Fail> {
     let track = Arc::new(rt.alloc(), Track::new())?;
-    let (all_are_woken, queued, steps) = woken(rt, &track)?;
-    assert!(rt; all_are_woken);
-    assert_eq!(rt; (queued, track.woke()), (PARKED, (PARKED, 2)));
-    assert_eq!(rt; steps, Some(2 * (PARKED + 1)));
+    let jobs = Executor::<Waiter, HostRuntime>::new(rt, Some("1"))?;
+    assert!(rt; all_are_woken(rt, &jobs, &track)?);
+    assert_eq!(rt; track.woke(), (PARKED, 2));
+    assert_eq!(rt; jobs.counts().queued, PARKED);
+    track.may_go_on.store(true, Ordering::SeqCst);
+    assert_eq!(rt; track.steps_until_over(PARKED + 1), Some(2 * (PARKED + 1)));
     Ok(())
 }
