@@ -304,7 +304,7 @@ fn copied<R: sync::Wait + AllocGlobal + RandomSource, A: AsyncRead + Drop, B: As
     Ok((told, writer))
 }
 
-// Whether byte i is i.
+// Whether byte i is i as `u8`.
 fn count_up(bytes: &[u8]) -> bool {
     bytes
         .iter()

@@ -130,6 +130,7 @@ where
     Ok(None)
 }
 
+// The same over an executor of two workers.
 fn left_halfway<H: Host>(rt: H) -> Result<Option<u32>, Fail> {
     Ok(first_that_stays::<Halves<H>, H>(rt, Executor::new(rt, Some("2"))?)?)
 }
