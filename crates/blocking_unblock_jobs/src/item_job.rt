@@ -61,7 +61,7 @@ impl<T: Iterator<Item = I> + Drop, I: Drop, H: Wait + Copy> Model for ItemJob<T,
 impl<T: Iterator<Item = I> + Drop, I: Drop, H: Wait + Copy> ItemJob<T, I, H> {
     ghost use Rattle.blocking_unblock_jobs.specs.ItemJobs.{ItemSeen, IsSteppedBy};
 
-    /// The job of a session of items: `end` is the pipe into which they go. The iterator comes back by the share. For `ToStream::lend`.
+    /// The job of a session of items: `end` is the pipe into which they go. The iterator comes back by the share. For `ToItem::lend`.
     pub fn new(
         rt: H,
         iterator: T,
