@@ -8,30 +8,30 @@ use Rattle.blocking_core.specs.declared.job.op.OpAnswer.{OpAnswer}
 use Rattle.blocking_core.specs.declared.job.op.OpAnswer.TheVariants as by
 
 -- a job that hasn't begun
-abbrev pub new_operation : Machine OpAction
-new_operation = machine Call false
+abbrev pub new_op : Machine OpAction
+new_op = machine Call false
 
 -- the next action
-abbrev pub operation_next : Machine OpAction → OpAction
-operation_next core = wake_first core.is_waking Deliver core.next
+abbrev pub op_next : Machine OpAction → OpAction
+op_next core = wake_first core.is_waking Deliver core.next
 
 -- What follows an answer to this action. An operation is called once; its result is in its place
 -- before the handle comes back. An answer to another action changes nothing.
-abbrev pub operation_by : OpAction → OpAnswer → Machine OpAction
-operation_by Call by.Returned = machine PutResult false
-operation_by PutResult (by.ResultPut woke) = machine Finish woke
-operation_by Finish (by.Finished woke) = machine Done woke
-operation_by action answer = machine action false
+abbrev pub op_by : OpAction → OpAnswer → Machine OpAction
+op_by Call by.Returned = machine PutResult false
+op_by PutResult (by.ResultPut woke) = machine Finish woke
+op_by Finish (by.Finished woke) = machine Done woke
+op_by action answer = machine action false
 
 -- a machine that has to call a waker waits for that alone
-abbrev pub operation_after_wake : OpAction → OpAnswer → Machine OpAction
-operation_after_wake action by.Delivered = machine action false
-operation_after_wake action answer = machine action true
+abbrev pub op_after_wake : OpAction → OpAnswer → Machine OpAction
+op_after_wake action by.Delivered = machine action false
+op_after_wake action answer = machine action true
 
-abbrev pub operation_in : Bool → OpAction → OpAnswer → Machine OpAction
-operation_in true action answer = operation_after_wake action answer
-operation_in false action answer = operation_by action answer
+abbrev pub op_in : Bool → OpAction → OpAnswer → Machine OpAction
+op_in true action answer = op_after_wake action answer
+op_in false action answer = op_by action answer
 
 -- the machine after an answer
-abbrev pub operation_after : Machine OpAction → OpAnswer → Machine OpAction
-operation_after core answer = operation_in core.is_waking core.next answer
+abbrev pub op_after : Machine OpAction → OpAnswer → Machine OpAction
+op_after core answer = op_in core.is_waking core.next answer

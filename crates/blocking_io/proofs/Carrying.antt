@@ -1,4 +1,4 @@
--- No byte of a copy is lost, added or changed, in any number of turns.
+-- No byte of a copy is lost, added or changed, in any number of steps.
 use Rattle.std.proofs.Common.{◌≡◌, ◌∙◌, ◌<◌, ◌≤◌, ◌+◌, ◌++◌, ◌⊎◌, inl, inr, ap, sym, refl, subst, ℕ}
 use Rattle.std.proofs.Common.{Bool, true, false, List, [], ◌∷◌, length, min, if◌then◌else◌}
 use Rattle.std.proofs.Common.{slice_range, vec_items, vec_len, arith, rules}
@@ -12,7 +12,7 @@ use Rattle.blocking_core.specs.declared.copy.CopyAction.TheVariants.{Read, Write
 use Rattle.blocking_core.specs.declared.copy.CopyAnswer.{CopyAnswer}
 use Rattle.blocking_core.specs.declared.copy.CopyAnswer.TheVariants as by
 use Rattle.blocking_io.specs.Copies.{Acts, Carries, EndsFlushed, EndsRead, Passes, Reaches, Runs}
-use Rattle.blocking_io.specs.Copies.{Turns, all_read, all_written, greatest, is_copied}
+use Rattle.blocking_io.specs.Copies.{Steps, all_read, all_written, greatest, is_copied}
 use Rattle.blocking_io.specs.Copies.{is_ending, told_flush, told_poll, unwritten}
 use Rattle.blocking_io.specs.CopySteps.{AnswersTo, IsWhole, IsWholeAt, StandsAt, is_over, rest_of}
 use Rattle.blocking_io.specs.Polled.{ReaderPoll, WriterPoll, OfFlush, OfRead, OfWrite}
@@ -89,7 +89,7 @@ copied_is_over (Done end) is going = cc
 
 module _ {A B : Type 0} (reads : A → ReaderPoll → A → Type 0)
     (writes : B → WriterPoll → B → Type 0) where
-  -- the polls of one turn, and what they moved
+  -- the polls of one step, and what they moved
   record Moved (action : CopyAction Error) (answer : CopyAnswer Error) (old new : Copier A B) :
       Type 0 where
     read : List ReaderPoll
@@ -166,7 +166,7 @@ module _ {A B : Type 0} (reads : A → ReaderPoll → A → Type 0)
       flushed_by (by.Failed why) is = cc
   moved_by (Done end) answer old new stands some acts = absurd acts
 
-  -- What turns carry, and what lets it be joined: after a loss nothing more is moved, and what is
+  -- What steps carry, and what lets it be joined: after a loss nothing more is moved, and what is
   -- over stays as it is.
   record Kept (old new : Copier A B) : Type 0 where
     carries : Carries reads writes old new
@@ -176,14 +176,14 @@ module _ {A B : Type 0} (reads : A → ReaderPoll → A → Type 0)
     quiet : is_done_reading old.core.next ≡ true
         → (carries.read ≡ []) × (is_done_reading new.core.next ≡ true)
 
-  turn_keeps : (old new : Copier A B) (answer : CopyAnswer Error)
-      → Turns reads writes old answer new → Kept old new
-  turn_keeps old new answer turn =
-      let m = moved_by old.core.next answer old new old.stands.0 old.stands.1.1 turn.1 in
+  step_keeps : (old new : Copier A B) (answer : CopyAnswer Error)
+      → Steps reads writes old answer new → Kept old new
+  step_keeps old new answer step =
+      let m = moved_by old.core.next answer old new old.stands.0 old.stands.1.1 step.1 in
       let stands = subst (StandsAt old.core.next old.core.copied old.core.is_short) old.piece.ok.0
       old.stands.0 in
       let left = some_rest old.core.next answer old.core.piece old.core.copied old.core.is_short _ _
-      turn.0 m.stays in record {
+      step.0 m.stays in record {
         carries = record {
           read = m.read;
           written = m.written;
@@ -193,28 +193,28 @@ module _ {A B : Type 0} (reads : A → ReaderPoll → A → Type 0)
           in_order = by_parts (unwritten old) _ _ _ _ left.0 m.is_read m.is_written left.1;
           whole =
               λ whole.
-              let w = subst IsWhole turn.2 whole in (
-                was_whole old.core.next answer _ old.core.is_short turn.0 w,
-                left.2 w ∙ sym (ap (λ core. rest_of core.next (vec_items new.piece)) turn.2),
+              let w = subst IsWhole step.2 whole in (
+                was_whole old.core.next answer _ old.core.is_short step.0 w,
+                left.2 w ∙ sym (ap (λ core. rest_of core.next (vec_items new.piece)) step.2),
               );
           counts =
-              λ le. ap (λ core. core.copied) turn.2
+              λ le. ap (λ core. core.copied) step.2
               ∙ (counted old.core.next answer old.core.copied old.core.is_short
-              (vec_items old.piece) turn.0 stands le
+              (vec_items old.piece) step.0 stands le
               ∙ ap (λ bytes. min (old.core.copied + length bytes) greatest) (sym m.is_written));
-          ended = λ before whole is. m.ended before (subst IsWhole turn.2 whole)
-              (subst (λ core. is_ending core.next ≡ true) turn.2 is);
-          flushed = λ going is. m.flushed (subst (λ core. is_copied core.next ≡ true) turn.2 is);
+          ended = λ before whole is. m.ended before (subst IsWhole step.2 whole)
+              (subst (λ core. is_ending core.next ≡ true) step.2 is);
+          flushed = λ going is. m.flushed (subst (λ core. is_copied core.next ≡ true) step.2 is);
         };
         stops =
             λ lost.
             let s = stopped old.core.next answer old.core.copied _ old.core.is_short
             (vec_items old.piece) (vec_items new.piece) old.stands.0 lost in
             (m.is_read ∙ s.0, m.is_written ∙ s.1);
-        over = λ over. absurd (over_is_not_asked old.core.next answer over turn.0);
+        over = λ over. absurd (over_is_not_asked old.core.next answer over step.0);
         quiet =
             λ is. let q = m.quiet is in
-            (q.0, subst (λ core. is_done_reading core.next ≡ true) (sym turn.2) q.1);
+            (q.0, subst (λ core. is_done_reading core.next ≡ true) (sym step.2) q.1);
       }
 
   nothing : (old : Copier A B) → Kept old old
@@ -339,7 +339,7 @@ module _ {A B : Type 0} (reads : A → ReaderPoll → A → Type 0)
       → Runs reads writes old answers new → Kept old new
   runs_keep old new [] run = subst (Kept old) (sym run) (nothing old)
   runs_keep old new (answer ∷ rest) run =
-      both old run.0 new (turn_keeps old run.0 answer run.1) (runs_keep run.0 new rest run.2)
+      both old run.0 new (step_keeps old run.0 answer run.1) (runs_keep run.0 new rest run.2)
 
   pub reaches_carry : (old new : Copier A B) → Reaches reads writes old new
       → Carries reads writes old new

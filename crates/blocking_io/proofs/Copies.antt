@@ -1,4 +1,4 @@
--- What turns of a copier keep, and how they join.
+-- What steps of a copier keep, and how they join.
 use Rattle.std.proofs.Common.{◌≡◌, ◌++◌, false, refl, subst, ℕ, List, [], ◌∷◌, Result}
 use Rattle.blocking_core.specs.declared.copy.CopyAction.{CopyAction}
 use Rattle.blocking_core.specs.declared.copy.CopyAction.TheVariants.{Read, Write, Flush, Done}
@@ -8,7 +8,7 @@ use Rattle.std.specs.declared.io.Error.{Error}
 use Rattle.futures.specs.Poll.{IfReady, OnPending}
 use Rattle.futures.specs.declared.task.Poll.{Poll}
 use Rattle.futures.specs.declared.task.Poll.TheVariants.{Ready, Pending}
-use Rattle.blocking_io.specs.Copies.{EndsWith, MayEnd, Runs, Reaches, Turns}
+use Rattle.blocking_io.specs.Copies.{EndsWith, MayEnd, Runs, Reaches, Steps}
 use Rattle.blocking_io.proofs.Copied.{may_end}
 use Rattle.blocking_io.specs.CopySteps.{is_over}
 use Rattle.blocking_io.specs.Polled.{ReaderPoll, WriterPoll}
@@ -17,18 +17,18 @@ use Rattle.blocking_io.specs.declared.copy.CopyFault.{CopyFault}
 
 module _ {A B : Type 0} (reads : A → ReaderPoll → A → Type 0)
     (writes : B → WriterPoll → B → Type 0) where
-  -- one more turn
+  -- one more step
   pub runs_on :
       (old mid new : Copier A B) (answers : List (CopyAnswer Error)) (answer : CopyAnswer Error)
-      → Runs reads writes old answers mid → Turns reads writes mid answer new
+      → Runs reads writes old answers mid → Steps reads writes mid answer new
       → Runs reads writes old (answers ++ (answer ∷ [])) new
-  runs_on old mid new [] answer first turn = let P : Copier A B → Type 0 =
-      λ m. Turns reads writes m answer new in (new, subst P first turn, refl)
-  runs_on old mid new (x ∷ rest) answer first turn =
-      (first.0, first.1, runs_on first.0 mid new rest answer first.2 turn)
+  runs_on old mid new [] answer first step = let P : Copier A B → Type 0 =
+      λ m. Steps reads writes m answer new in (new, subst P first step, refl)
+  runs_on old mid new (x ∷ rest) answer first step =
+      (first.0, first.1, runs_on first.0 mid new rest answer first.2 step)
 
   pub reaches_on : (old mid new : Copier A B) → Reaches reads writes old mid
-      → (answer : CopyAnswer Error) × Turns reads writes mid answer new
+      → (answer : CopyAnswer Error) × Steps reads writes mid answer new
       → Reaches reads writes old new
   reaches_on old mid new first last =
       (first.0 ++ (last.0 ∷ []), runs_on old mid new first.0 last.0 first.1 last.1)

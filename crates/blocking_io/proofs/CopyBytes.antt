@@ -1,4 +1,4 @@
--- No byte of a copy is lost, added or changed, in one turn.
+-- No byte of a copy is lost, added or changed, in one step.
 use Rattle.std.proofs.Common.{◌≡◌, ◌∙◌, ◌<◌, ◌≤◌, ◌+◌, ◌-◌, ◌++◌, ◌⊎◌, inl, inr, sym, refl, subst}
 use Rattle.std.proofs.Common.{zero, suc, ℕ, Bool, true, false, List, [], ◌∷◌, take, drop, length}
 use Rattle.std.proofs.Common.{min, slice_range, nat_lt, nat_le, if◌then◌else◌, arith, ap, rules}

@@ -1,4 +1,4 @@
--- What a copier does: each turn of it, and what it comes to by turns.
+-- What a copier does: each step of it, and what it comes to by steps.
 use Rattle.std.specs.Prelude.{◌≡◌, ◌+◌, ◌-◌, ◌^◌, ◌≤◌, suc, ℕ, Bool, true, false, List, [], ◌∷◌}
 use Rattle.std.specs.Prelude.{◌++◌, length, min, take, slice_range, vec_items, Result, Ok, Err}
 use Rattle.std.specs.declared.io.Error.{Error}
@@ -102,23 +102,23 @@ module _ {A B : Type 0} (reads : A → ReaderPoll → A → Type 0)
       × (vec_items new.piece ≡ vec_items old.piece)
   Acts (Done end) answer old new = ⊥
 
-  -- one turn: the machine was given this answer to the action that was next
-  abbrev pub Turns : Copier A B → CopyAnswer Error → Copier A B → Type 0
-  Turns old answer new = AnswersTo old.core.next answer × Acts old.core.next answer old new
+  -- one step: the machine was given this answer to the action that was next
+  abbrev pub Steps : Copier A B → CopyAnswer Error → Copier A B → Type 0
+  Steps old answer new = AnswersTo old.core.next answer × Acts old.core.next answer old new
       × (new.core ≡ copy_after old.core answer)
 
-  -- the copier comes from one to the other by turns that were answered so
+  -- the copier comes from one to the other by steps that were answered so
   abbrev pub Runs : Copier A B → List (CopyAnswer Error) → Copier A B → Type 0
   Runs old [] new = new ≡ old
-  Runs old (answer ∷ rest) new = (mid : Copier A B) × Turns old answer mid × Runs mid rest new
+  Runs old (answer ∷ rest) new = (mid : Copier A B) × Steps old answer mid × Runs mid rest new
 
   abbrev pub Reaches : Copier A B → Copier A B → Type 0
   Reaches old new = (answers : List (CopyAnswer Error)) × Runs old answers new
 
-  -- the same by one turn at least: this was the last
+  -- the same by one step at least: this was the last
   abbrev pub GoesOn : Copier A B → Copier A B → Type 0
   GoesOn old new =
-      (mid : Copier A B) × (answer : CopyAnswer Error) × Reaches old mid × Turns mid answer new
+      (mid : Copier A B) × (answer : CopyAnswer Error) × Reaches old mid × Steps mid answer new
 
   -- What a copier did from the one to the other, by the polls of its reader and its writer: what
   -- was written is a beginning of what was to be written and of what was read since, in order and
@@ -161,7 +161,7 @@ module _ {A B : Type 0} (reads : A → ReaderPoll → A → Type 0)
   SaysOf reader writer (Ok count) = IsCopied reader writer count
   SaysOf reader writer (Err why) = Unit {0}
 
-  -- What a copier may give: how the copy ends that it comes to by turns, and of one that was begun
+  -- What a copier may give: how the copy ends that it comes to by steps, and of one that was begun
   -- anew, what that says.
   pub record MayEnd (old : Copier A B) (out : Result ℕ CopyFault) : Type 0 where
     pub new : Copier A B

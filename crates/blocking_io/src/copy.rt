@@ -86,7 +86,7 @@ impl<A: AsyncRead + Drop, B: AsyncWrite + Drop> Copier<A, B> {
     ghost use Rattle.futures.specs.Task.{IsArmed, Keeps};
     ghost use Rattle.blocking_core.specs.Copying.{new_copy};
     ghost use Rattle.blocking_core.specs.declared.copy.CopyAction.TheVariants.{Read as ReadPiece, Write as WriteRest, Flush as FlushAll};
-    ghost use Rattle.blocking_io.specs.Copies.{Acts, Turns};
+    ghost use Rattle.blocking_io.specs.Copies.{Acts, Steps};
     ghost use Rattle.blocking_io.specs.CopySteps.{is_over, AnswersTo, IfWaits};
 
     /// A copy of all that the reader gives, by pieces of at most so many bytes. It fails, and drops both, where there is no memory for a
@@ -212,11 +212,11 @@ impl<A: AsyncRead + Drop, B: AsyncWrite + Drop> Copier<A, B> {
     }
 
     // Does what is next, and tells the machine what came of it.
-    fn turn(&mut self, cx: &mut Context<'_>) -> Poll<()>
+    fn step(&mut self, cx: &mut Context<'_>) -> Poll<()>
         requires going { is_over self.old.core.next ≡ false }
         requires reader_open { A.closed self.old.reader → ⊥ }
         requires writer_open { B.closed self.old.writer → ⊥ }
-        ensures turns { (answer : _) × Turns A.reads B.writes self.old answer self.new }
+        ensures steps { (answer : _) × Steps A.reads B.writes self.old answer self.new }
         ensures waits { OnPending result (self.new.core.next ≡ self.old.core.next) }
         ensures reader_open { A.closed self.new.reader → ⊥ }
         ensures writer_open { B.closed self.new.writer → ⊥ }
@@ -268,7 +268,7 @@ impl<A: AsyncRead + Drop, B: AsyncWrite + Drop> Future for Copier<A, B> {
         ensures kept { Keeps cx.old cx.new }
     {
         for _ in 0..u64::MAX {
-            if let Poll::Pending = self.turn(cx) {
+            if let Poll::Pending = self.step(cx) {
                 return Poll::Pending;
             }
             if let CopyAction::Done(end) = self.core.next() {

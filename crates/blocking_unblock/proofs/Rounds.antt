@@ -520,7 +520,7 @@ told true poll answer = owner_after (owner_after poll answer) by.Delivered
 told false poll answer = owner_after poll answer
 
 -- one round from a machine to another
-pub record Turned {T I H E B : Type 0} (begins : B → State → Type 0) (keeps : B → Kept → Type 0)
+pub record Round {T I H E B : Type 0} (begins : B → State → Type 0) (keeps : B → Kept → Type 0)
     (old new : OwnerMachine E) (was place : HandleState T I H) (before after : B) (armed : Type 0) :
     Type 0 where
   pub stands : Stands begins keeps armed new place after
@@ -544,7 +544,7 @@ module _ {T I H B : Type 0} (E : Type 0) (begins : B → State → Type 0) (keep
     abbrev Goes : OwnerAction E → OwnerAnswer E → Bool → Type 0
     Goes next answer noted = FitsAction begins keeps was call state next before → IsAt state old
         → Does (begins before) next old answer noted new armed
-        → Brings begins keeps next answer before after → Turned begins keeps (between next)
+        → Brings begins keeps next answer before after → Round begins keeps (between next)
         (told noted (between next) answer) old new before after armed
 
     -- what was ready is ready still
@@ -641,16 +641,16 @@ module _ {T I H B : Type 0} (E : Type 0) (begins : B → State → Type 0) (keep
       is_at_end = at_end;
     }
 
-    reply_turn : (next : OwnerAction E) (reply : Reply E) (end : OwnerMachine E)
+    reply_round : (next : OwnerAction E) (reply : Reply E) (end : OwnerMachine E)
         → end ≡ replied reply false → Reaches (between next) end
         → FitsReply call state reply (begins after (begun_by call)) (keeps after) → IsAt state new
         → ((first : HandleState T I H) → KeepsFirst {E = E} call state
         (act.Reply reply) at_end new first)
         → ((first : B) → KeepsBrought {E = E} keeps call (act.Reply reply) after first)
-        → Turned begins keeps (between next) end old new before after armed
-    reply_turn next reply end is reaches fits at first brought =
+        → Round begins keeps (between next) end old new before after armed
+    reply_round next reply end is reaches fits at first brought =
         let Q : OwnerMachine E → Type 0 = λ m. Reaches (between next) m
-        → Turned begins keeps (between next) m old new before after armed in
+        → Round begins keeps (between next) m old new before after armed in
         subst Q (sym is)
         (λ reaches. record {
           stands = record { awake = refl; fits = fits; at = at };
@@ -669,7 +669,7 @@ module _ {T I H B : Type 0} (E : Type 0) (begins : B → State → Type 0) (keep
         → ((first : HandleState T I H) → KeepsFirst {E = E} call state
         (act.Reply reply) at_end new first)
         → ((first : B) → KeepsBrought {E = E} keeps call (act.Reply reply) after first)
-        → Turned begins keeps (between next) (told noted (between next) answer) old new before after
+        → Round begins keeps (between next) (told noted (between next) answer) old new before after
         armed
     reply_goes next answer reply true is answers fits at first brought =
         let after : OwnerMachine E = told true (between next) answer in
@@ -677,10 +677,10 @@ module _ {T I H B : Type 0} (E : Type 0) (begins : B → State → Type 0) (keep
         let P : OwnerMachine E → Type 0 = λ m. Runs m (by.Delivered ∷ []) after in
         let rest : Runs (owner_after (between next) answer) (by.Delivered ∷ []) after =
         subst P (sym is) (tt, end) in
-        reply_turn next reply after end (answer ∷ (by.Delivered ∷ []), (answers, rest)) fits at
+        reply_round next reply after end (answer ∷ (by.Delivered ∷ []), (answers, rest)) fits at
         first brought
     reply_goes next answer reply false is answers fits at first brought =
-        reply_turn next reply (owner_after (between next) answer) is (answer ∷ [], (answers, refl))
+        reply_round next reply (owner_after (between next) answer) is (answer ∷ [], (answers, refl))
         fits at first brought
 
     -- a count of no more than was asked for or offered fits
@@ -701,12 +701,12 @@ module _ {T I H B : Type 0} (E : Type 0) (begins : B → State → Type 0) (keep
         → Resumes call state (begins after (begun_by call)) (keeps after Way) → IsAt state new
         → ((first : B) → KeepsBrought {E = E} keeps call next before first
         → KeepsBrought {E = E} keeps call act.Pending after first)
-        → Turned begins keeps (between next) (owner_after (between next) answer) old new before
+        → Round begins keeps (between next) (owner_after (between next) answer) old new before
         after armed
     waits_turn next answer is answers waits goes at brought =
         let end : OwnerMachine E = owner_after (between next) answer in
         let Q : OwnerMachine E → Type 0 = λ m. Reaches (between next) m
-        → Turned begins keeps (between next) m old new before after armed in
+        → Round begins keeps (between next) m old new before after armed in
         subst Q (sym is)
         (λ reaches. record {
           stands = record { awake = refl; fits = (waits, goes); at = at };
@@ -724,7 +724,7 @@ module _ {T I H B : Type 0} (E : Type 0) (begins : B → State → Type 0) (keep
         absurd (omega arith)
     drain_goes most (by.Got (suc count) n) noted fits at does brings =
         let Q : Bool → Type 0 = λ b.
-        Turned begins keeps (between (act.Drain most)) (told noted (between (act.Drain most))
+        Round begins keeps (between (act.Drain most)) (told noted (between (act.Drain most))
         (by.Got (suc count) b)) old new before after armed in
         subst Q (sym does.0.0)
         (reply_goes (act.Drain most) (by.Got (suc count) noted) (reply.Count (suc count)) noted
@@ -762,7 +762,7 @@ module _ {T I H B : Type 0} (E : Type 0) (begins : B → State → Type 0) (keep
         absurd (omega arith)
     fill_goes most (by.Took (suc count) n) noted fits at does brings =
         let Q : Bool → Type 0 = λ b.
-        Turned begins keeps (between (act.Fill most)) (told noted (between (act.Fill most))
+        Round begins keeps (between (act.Fill most)) (told noted (between (act.Fill most))
         (by.Took (suc count) b)) old new before after armed in
         subst Q (sym does.0.0)
         (reply_goes (act.Fill most) (by.Took (suc count) noted) (reply.Count (suc count)) noted
@@ -790,7 +790,7 @@ module _ {T I H B : Type 0} (E : Type 0) (begins : B → State → Type 0) (keep
     receive_goes : (answer : OwnerAnswer E) (noted : Bool) → Goes act.Receive answer noted
     receive_goes (by.Received n) noted fits at does brings =
         let Q : Bool → Type 0 = λ b.
-        Turned begins keeps (between act.Receive) (told noted (between act.Receive) (by.Received b))
+        Round begins keeps (between act.Receive) (told noted (between act.Receive) (by.Received b))
         old new before after armed in
         subst Q (sym does.0)
         (reply_goes act.Receive (by.Received noted) reply.Item noted refl tt
@@ -829,7 +829,7 @@ module _ {T I H B : Type 0} (E : Type 0) (begins : B → State → Type 0) (keep
     slot_back : (why : Option (Fault E))
         → FitsAction begins keeps {E = E} was call state act.PollSlot before → IsAt Idle new
         → BackAt state (by.Back why)
-        → after ≡ before → Turned begins keeps (between act.PollSlot)
+        → after ≡ before → Round begins keeps (between act.PollSlot)
         (owner_after (between act.PollSlot) (by.Back why)) old new before after armed
     slot_back why fits idle from same = record {
       stands = record {
@@ -856,7 +856,7 @@ module _ {T I H B : Type 0} (E : Type 0) (begins : B → State → Type 0) (keep
 
     slot_sought : (came : ℕ) → FitsAction begins keeps {E = E} was call state act.PollSlot before
         → IsAt Idle new → BackAt {E = E} state (by.Sought came)
-        → after ≡ before → Turned begins keeps (between act.PollSlot)
+        → after ≡ before → Round begins keeps (between act.PollSlot)
         (owner_after (between act.PollSlot) (by.Sought came)) old new before after armed
     slot_sought came fits idle from same = record {
       stands =
@@ -951,26 +951,26 @@ module _ {T I H B : Type 0} (E : Type 0) (begins : B → State → Type 0) (keep
     goes act.Pending answer noted going = absurd going
 
   -- A round of a machine that stands: it does what it names, is told of it, and stands again.
-  pub turned : (poll : OwnerMachine E) (answer : OwnerAnswer E) (noted : Bool) → IsGoing poll.next
+  pub round : (poll : OwnerMachine E) (answer : OwnerAnswer E) (noted : Bool) → IsGoing poll.next
       → Stands begins keeps was poll old before
       → Does (begins before) poll.next old answer noted new armed
       → Brings begins keeps poll.next answer before after
-      → Turned begins keeps poll (told noted poll answer) old new before after armed
-  turned poll answer noted going stands does brings =
+      → Round begins keeps poll (told noted poll answer) old new before after armed
+  round poll answer noted going stands does brings =
       let is : record poll { is_waking = false } ≡ poll = rw stands.awake refl in
       let P : OwnerMachine E → Type 0 =
-      λ m. Turned begins keeps m (told noted m answer) old new before after armed in
+      λ m. Round begins keeps m (told noted m answer) old new before after armed in
       subst P is (goes poll.call poll.state poll.is_at_end poll.next answer noted going stands.fits
       stands.at does brings)
 
   -- the same where no note was taken, and where one was
-  pub turned_plain : {N : Type 0} (poll end : OwnerMachine E) (action : OwnerAction E)
+  pub round_plain : {N : Type 0} (poll end : OwnerMachine E) (action : OwnerAction E)
       (answer : OwnerAnswer E) (note : Option N)
       → IsGoing poll.next → Stands begins keeps was poll old before → action ≡ owner_next poll
       → Does (begins before) action old answer (has note) new armed
       → Brings begins keeps action answer before after → note ≡ None → end ≡ owner_after poll answer
-      → Turned begins keeps poll end old new before after armed
-  turned_plain {N} poll end action answer note going stands is does brings none came =
+      → Round begins keeps poll end old new before after armed
+  round_plain {N} poll end action answer note going stands is does brings none came =
       let next : action ≡ poll.next = is ∙ (rw stands.awake refl) in
       let P : OwnerAction E → Type 0 =
       λ a. Does (begins before) a old answer (has note) new armed in
@@ -978,18 +978,18 @@ module _ {T I H B : Type 0} (E : Type 0) (begins : B → State → Type 0) (keep
       λ n. Does (begins before) poll.next old answer (has n) new armed in
       let S : OwnerAction E → Type 0 = λ a. Brings begins keeps a answer before after in
       let R : OwnerMachine E → Type 0 =
-      λ m. Turned begins keeps poll m old new before after armed in
-      subst R (sym came) (turned poll answer false going stands (subst Q none (subst P next does))
+      λ m. Round begins keeps poll m old new before after armed in
+      subst R (sym came) (round poll answer false going stands (subst Q none (subst P next does))
       (subst S next brings))
 
-  pub turned_noted : {N : Type 0} (poll mid end : OwnerMachine E) (action : OwnerAction E)
+  pub round_noted : {N : Type 0} (poll mid end : OwnerMachine E) (action : OwnerAction E)
       (answer : OwnerAnswer E) (note : Option N) (taken : N)
       → IsGoing poll.next → Stands begins keeps was poll old before → action ≡ owner_next poll
       → Does (begins before) action old answer (has note) new armed
       → Brings begins keeps action answer before after → note ≡ Some taken
       → mid ≡ owner_after poll answer → end ≡ owner_after mid by.Delivered
-      → Turned begins keeps poll end old new before after armed
-  turned_noted {N} poll mid end action answer note taken going stands is does brings some first
+      → Round begins keeps poll end old new before after armed
+  round_noted {N} poll mid end action answer note taken going stands is does brings some first
       came =
       let next : action ≡ poll.next = is ∙ (rw stands.awake refl) in
       let P : OwnerAction E → Type 0 =
@@ -998,10 +998,10 @@ module _ {T I H B : Type 0} (E : Type 0) (begins : B → State → Type 0) (keep
       λ n. Does (begins before) poll.next old answer (has n) new armed in
       let S : OwnerAction E → Type 0 = λ a. Brings begins keeps a answer before after in
       let R : OwnerMachine E → Type 0 =
-      λ m. Turned begins keeps poll m old new before after armed in
+      λ m. Round begins keeps poll m old new before after armed in
       let whole : told true poll answer ≡ end =
       ap (λ m. owner_after m by.Delivered) (sym first) ∙ sym came in
-      subst R whole (turned poll answer true going stands (subst Q some (subst P next does))
+      subst R whole (round poll answer true going stands (subst Q some (subst P next does))
       (subst S next brings))
 
 module _ {T I H E B : Type 0} (begins : B → State → Type 0) (keeps : B → Kept → Type 0) where

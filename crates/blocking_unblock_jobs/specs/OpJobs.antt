@@ -2,7 +2,7 @@
 use Rattle.std.specs.Prelude.{◌≡◌, Bool, Option, Some, None, IsSome, IfSome, refl}
 use Rattle.std.specs.Coded.{Coded, code_by, coded×, coded_bool, coded_option}
 use Rattle.blocking_core.specs.Machines.{Machine}
-use Rattle.blocking_core.specs.Ops.{operation_next, operation_after}
+use Rattle.blocking_core.specs.Ops.{op_next, op_after}
 use Rattle.blocking_core.specs.declared.job.op.OpAction.{OpAction}
 use Rattle.blocking_core.specs.declared.job.op.OpAction.TheVariants.{Call, PutResult, Finish}
 use Rattle.blocking_core.specs.declared.job.op.OpAction.TheVariants.{Deliver, Done}
@@ -60,8 +60,8 @@ module _ {F T R : Type 0} where
   -- what came of it
   abbrev pub OneAnswer : (R → Type 0) → OpAction → OpSeen F T R → OpSeen F T R → JobStep → Type 0
   OneAnswer may_give action old new told =
-      (answer : OpAnswer) × (new.core ≡ operation_after old.core answer) × Answers action answer
-      × (told ≡ told_by (operation_next new.core)) × Hands may_give answer old new
+      (answer : OpAnswer) × (new.core ≡ op_after old.core answer) × Answers action answer
+      × (told ≡ told_by (op_next new.core)) × Hands may_give answer old new
 
   -- What one step does: the machine gets one answer, to the action that was next; a job that is
   -- over does nothing.
@@ -70,7 +70,7 @@ module _ {F T R : Type 0} where
   IsSteppedBy may_give action old new told = OneAnswer may_give action old new told
 
   abbrev pub IsStepped : (R → Type 0) → OpSeen F T R → OpSeen F T R → JobStep → Type 0
-  IsStepped may_give old new told = IsSteppedBy may_give (operation_next old.core) old new told
+  IsStepped may_give old new told = IsSteppedBy may_give (op_next old.core) old new told
 
 -- The job has what its next action is about: the operation until it is called, its handle until
 -- that is given back, and a result that the operation may give until it is put.

@@ -2,7 +2,7 @@
 ghost use Rattle.std.specs.Prelude.{◌≡◌, None, Some, OnErr, IfOk};
 ghost use Rattle.futures.specs.Task.{IsArmed, Keeps};
 ghost use Rattle.blocking_core.specs.declared.job.op.OpAction.TheVariants.{Call, PutResult, Finish, Deliver};
-ghost use Rattle.blocking_core.specs.Ops.{new_operation, operation_next};
+ghost use Rattle.blocking_core.specs.Ops.{new_op, op_next};
 
 use crate::share::{Given, MayFail, SessionShare, put_result};
 use blocking_core::job::{OpAction, OpAnswer, OpCore};
@@ -125,7 +125,7 @@ impl<F: CallOn<T, Out: Drop> + Drop, T: Drop, H: Wait + Copy> OpJob<F, T, H> {
         place: Arc<LockedSlot<ResultOf<F, T>>>,
         share: Arc<SessionShare<T, MayFail>>,
     ) -> OpJob<F, T, H>
-        ensures { result ≡ record { core = new_operation; operation = Some operation; handle = Some handle; gave = None } }
+        ensures { result ≡ record { core = new_op; operation = Some operation; handle = Some handle; gave = None } }
     {
         OpJob {
             core: OpCore::new(),
@@ -161,7 +161,7 @@ impl<F: CallOn<T, Out: Drop> + Drop, T: Drop, H: Wait + Copy> OpJob<F, T, H> {
     }
 
     fn call(&mut self) -> JobStep
-        requires { operation_next self.old.core ≡ Call }
+        requires { op_next self.old.core ≡ Call }
         ensures { IsSteppedBy F.may_give Call self.old self.new result }
     {
         let Some(operation) = self.operation.take() else {
@@ -176,7 +176,7 @@ impl<F: CallOn<T, Out: Drop> + Drop, T: Drop, H: Wait + Copy> OpJob<F, T, H> {
     }
 
     fn put_result(&mut self) -> JobStep
-        requires { operation_next self.old.core ≡ PutResult }
+        requires { op_next self.old.core ≡ PutResult }
         ensures { IsSteppedBy F.may_give PutResult self.old self.new result }
     {
         let Some(gave) = self.gave.take() else {
@@ -191,7 +191,7 @@ impl<F: CallOn<T, Out: Drop> + Drop, T: Drop, H: Wait + Copy> OpJob<F, T, H> {
     }
 
     fn finish(&mut self) -> JobStep
-        requires { operation_next self.old.core ≡ Finish }
+        requires { op_next self.old.core ≡ Finish }
         ensures { IsSteppedBy F.may_give Finish self.old self.new result }
     {
         let Some(handle) = self.handle.take() else {
@@ -206,7 +206,7 @@ impl<F: CallOn<T, Out: Drop> + Drop, T: Drop, H: Wait + Copy> OpJob<F, T, H> {
     }
 
     fn deliver(&mut self) -> JobStep
-        requires { operation_next self.old.core ≡ Deliver }
+        requires { op_next self.old.core ≡ Deliver }
         ensures { IsSteppedBy F.may_give Deliver self.old self.new result }
     {
         if let Some(waker) = self.waker.take() {

@@ -2,7 +2,7 @@
 -- of the machines of jobs and polls, and of what they meet at
 pub use Rattle.blocking_core.specs.Items.{item_after, item_by, item_in as core_item_in, item_next}
 pub use Rattle.blocking_core.specs.Machines.{Machine, machine, wake_first}
-pub use Rattle.blocking_core.specs.Ops.{operation_after, operation_by, operation_in, operation_next}
+pub use Rattle.blocking_core.specs.Ops.{op_after, op_by, op_in as core_op_in, op_next}
 pub use Rattle.blocking_core.specs.OwnerCalls.{OwnerMachine, has_pipe, new_poll, owner_after}
 pub use Rattle.blocking_core.specs.OwnerCalls.{owner_by, owner_in, owner_next}
 pub use Rattle.blocking_core.specs.Pipes.{Pipe, room}
@@ -87,10 +87,10 @@ pub use Rattle.blocking_world_laws.specs.TaskLaws.{was_cancelled}
 pub use Rattle.blocking_world_laws.specs.Wakes.{is_waiting, was_woken}
 -- of tasks and owners
 pub use Rattle.blocking_world_holders.specs.Ops.{OperationAs, Progress as OpProgress}
-pub use Rattle.blocking_world_holders.specs.Ops.{action_as as operation_action_as}
-pub use Rattle.blocking_world_holders.specs.Ops.{action_of as operation_action_of}
-pub use Rattle.blocking_world_holders.specs.Ops.{progress_after_answer as operation_progress_after_answer}
-pub use Rattle.blocking_world_holders.specs.Ops.{progress_with as operation_progress_with}
+pub use Rattle.blocking_world_holders.specs.Ops.{action_as as op_action_as}
+pub use Rattle.blocking_world_holders.specs.Ops.{action_of as op_action_of}
+pub use Rattle.blocking_world_holders.specs.Ops.{progress_after_answer as op_progress_after_answer}
+pub use Rattle.blocking_world_holders.specs.Ops.{progress_with as op_progress_with}
 pub use Rattle.blocking_world_holders.specs.OwnerSteps.{Acts, Begins, CallsWaker, Delivers, GivesUp}
 pub use Rattle.blocking_world_holders.specs.OwnerSteps.{IsAnswered, IsAside, IsAsked, IsDropped}
 pub use Rattle.blocking_world_holders.specs.OwnerSteps.{IsFresh, IsHeld, IsRefused, MakesOwner}
@@ -120,14 +120,14 @@ pub use Rattle.blocking_world_holders.specs.Owners.{awaits_operation, back_answe
 pub use Rattle.blocking_world_holders.specs.Owners.{close_did, did, did_by, did_in, drain_did}
 pub use Rattle.blocking_world_holders.specs.Owners.{drop_did, fill_did, fill_did_in, find_did}
 pub use Rattle.blocking_world_holders.specs.Owners.{giving_up_wakes, goes_on, is_for_result}
-pub use Rattle.blocking_world_holders.specs.Owners.{is_gone, is_no_more, is_pending, item_in}
+pub use Rattle.blocking_world_holders.specs.Owners.{is_gone, is_no_more, is_pending, last_item}
 pub use Rattle.blocking_world_holders.specs.Owners.{look_did, looked_as, may_ask, may_ask_at}
 pub use Rattle.blocking_world_holders.specs.Owners.{may_call_at, new_owner, next_at, next_by}
-pub use Rattle.blocking_world_holders.specs.Owners.{next_of, next_to_say, note_at, operate_as}
-pub use Rattle.blocking_world_holders.specs.Owners.{operate_in, poll_call_of, read_as, read_in}
+pub use Rattle.blocking_world_holders.specs.Owners.{next_of, next_to_say, note_at, op_as}
+pub use Rattle.blocking_world_holders.specs.Owners.{op_in, poll_call_of, read_as, read_in}
 pub use Rattle.blocking_world_holders.specs.Owners.{receive_did, reply_as, reply_did, rests}
-pub use Rattle.blocking_world_holders.specs.Owners.{seek_as, seek_in, stage_after_reply, stream_as}
-pub use Rattle.blocking_world_holders.specs.Owners.{stream_in, without_job, worked, worked_by}
+pub use Rattle.blocking_world_holders.specs.Owners.{seek_as, seek_in, stage_after_reply, item_as}
+pub use Rattle.blocking_world_holders.specs.Owners.{item_in, without_job, worked, worked_by}
 pub use Rattle.blocking_world_holders.specs.Owners.{write_as, write_in}
 pub use Rattle.blocking_world_holders.specs.Passages.{Goods, OfBytes, OfItems, OfNothing, if_piped}
 pub use Rattle.blocking_world_holders.specs.Passages.{is_piped, through}
@@ -146,8 +146,8 @@ pub use Rattle.blocking_world_holders.specs.Sessions.{Session, Work, closing_wak
 pub use Rattle.blocking_world_holders.specs.Sessions.{finish_wakes, fits_in, found_piece, found_put}
 pub use Rattle.blocking_world_holders.specs.Sessions.{found_room, found_send, give_up_wakes}
 pub use Rattle.blocking_world_holders.specs.Sessions.{goods_of, holds, new_session}
-pub use Rattle.blocking_world_holders.specs.Sessions.{operation_finishes, operation_puts}
-pub use Rattle.blocking_world_holders.specs.Sessions.{operation_works, reach, received}
+pub use Rattle.blocking_world_holders.specs.Sessions.{op_finishes, op_puts}
+pub use Rattle.blocking_world_holders.specs.Sessions.{op_works, reach, received}
 pub use Rattle.blocking_world_holders.specs.Sessions.{result_wakes, seek_finishes, seek_works}
 pub use Rattle.blocking_world_holders.specs.Sessions.{serial_of, session_after_close}
 pub use Rattle.blocking_world_holders.specs.Sessions.{session_after_consume, session_after_drain}
@@ -156,12 +156,12 @@ pub use Rattle.blocking_world_holders.specs.Sessions.{session_after_finish, sess
 pub use Rattle.blocking_world_holders.specs.Sessions.{session_after_job_close, session_after_look}
 pub use Rattle.blocking_world_holders.specs.Sessions.{session_after_peek, session_after_put}
 pub use Rattle.blocking_world_holders.specs.Sessions.{session_after_receive, session_after_room}
-pub use Rattle.blocking_world_holders.specs.Sessions.{session_after_send, streamer_closes}
-pub use Rattle.blocking_world_holders.specs.Sessions.{streamer_finishes, streamer_works}
-pub use Rattle.blocking_world_holders.specs.Sessions.{work_at_peek, work_at_put, work_at_room}
-pub use Rattle.blocking_world_holders.specs.Sessions.{work_at_send, work_by, work_of_close}
-pub use Rattle.blocking_world_holders.specs.Sessions.{work_of_consume, work_of_finish}
-pub use Rattle.blocking_world_holders.specs.Sessions.{writer_closes, writer_finishes, writer_works}
+pub use Rattle.blocking_world_holders.specs.Sessions.{session_after_send, item_closes}
+pub use Rattle.blocking_world_holders.specs.Sessions.{item_finishes, item_works}
+pub use Rattle.blocking_world_holders.specs.Sessions.{write_at_peek, read_at_put, read_at_room}
+pub use Rattle.blocking_world_holders.specs.Sessions.{item_at_send, read_works, read_closes}
+pub use Rattle.blocking_world_holders.specs.Sessions.{write_consumes, read_finishes}
+pub use Rattle.blocking_world_holders.specs.Sessions.{write_closes, write_finishes, write_works}
 pub use Rattle.blocking_world_holders.specs.Steps.{CallsWaker as TaskCallsWaker, Finishes}
 pub use Rattle.blocking_world_holders.specs.Steps.{GivesUp as TaskGivesUp}
 pub use Rattle.blocking_world_holders.specs.Steps.{IsAnswered as TaskIsAnswered}

@@ -1,7 +1,7 @@
 -- How far the job of an operation is, and how that hangs together with what it has done.
 use Rattle.std.specs.Prelude.{◌≡◌, ℕ, List, None}
 use Rattle.blocking_core.specs.Machines.{Machine}
-use Rattle.blocking_core.specs.Ops.{new_operation, operation_next, operation_after}
+use Rattle.blocking_core.specs.Ops.{new_op, op_next, op_after}
 use Rattle.blocking_core.specs.declared.job.op.OpAction.{OpAction}
 use Rattle.blocking_core.specs.declared.job.op.OpAction.TheVariants as operation
 use Rattle.blocking_core.specs.declared.job.op.OpAnswer.{OpAnswer}
@@ -21,7 +21,7 @@ pub record Progress : Type 0 where
 
 -- a job that has done nothing yet
 abbrev pub not_begun : Progress
-not_begun = record { core = new_operation; number = 0 }
+not_begun = record { core = new_op; number = 0 }
 
 -- ---- what comes next
 
@@ -35,17 +35,17 @@ action_as operation.Done = Over
 
 -- the next action of the job, in the words of the laws
 abbrev pub action_of : Progress → JobAction
-action_of job = action_as (operation_next job.core)
+action_of job = action_as (op_next job.core)
 
 -- ---- what it leaves
 
 -- the job after its action was answered so
 abbrev pub progress_with : Progress → OpAnswer → Progress
-progress_with job answer = record job { core = operation_after job.core answer }
+progress_with job answer = record job { core = op_after job.core answer }
 
 -- the operation gave this number
 abbrev pub progress_after_number : Progress → ℕ → Progress
-progress_after_number job n = record job { core = operation_after job.core by.Returned; number = n }
+progress_after_number job n = record job { core = op_after job.core by.Returned; number = n }
 
 -- the operation answered so
 abbrev pub progress_after_answer : Progress → HandleAnswer → Progress

@@ -50,7 +50,7 @@ use Rattle.blocking_world_laws.specs.declared.event.Reply.TheVariants as told
 use Rattle.blocking_world_laws.specs.declared.step.HandleCall.{HandleCall}
 use Rattle.blocking_world_laws.specs.declared.step.HandleCall.TheVariants as handle_call
 use Rattle.blocking_world_holders.specs.Owners.{Owner, capacity_of, number_of, note_at, is_gone}
-use Rattle.blocking_world_holders.specs.Owners.{is_no_more, poll_call_of, reply_as, item_in}
+use Rattle.blocking_world_holders.specs.Owners.{is_no_more, poll_call_of, reply_as, last_item}
 use Rattle.blocking_world_holders.specs.Sessions.{Session, goods_of}
 use Rattle.blocking_world_holders.specs.declared.owner.OwnerStage.{OwnerStage}
 use Rattle.blocking_world_holders.specs.declared.owner.OwnerStage.TheVariants as stage
@@ -623,7 +623,7 @@ pub record OwnerAs (owner : Owner) (cut : List Event) : Type 0 where
   pub asked : call (own cut) ≡ owner.asked
   pub polled : under_way (own cut) ≡ called_at owner.stage owner.asked
   pub bytes : (kind : Kind) → capacity kind (own cut) ≡ capacity_of owner kind
-  pub stage : StageAs owner.stage (item_in owner.session) cut
+  pub stage : StageAs owner.stage (last_item owner.session) cut
   pub operates : OperatesAs owner (own cut)
   pub last : LastAs owner.session (capacity_of owner) cut
   pub place : PlaceIn owner.session cut

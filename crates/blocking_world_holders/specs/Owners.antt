@@ -8,7 +8,7 @@ use Rattle.blocking_core.specs.Places.{Met, Served, Waiting, Closed}
 use Rattle.blocking_core.specs.Reads.{read_next}
 use Rattle.blocking_core.specs.Writes.{write_next}
 use Rattle.blocking_core.specs.Seeks.{seek_next}
-use Rattle.blocking_core.specs.Ops.{operation_next}
+use Rattle.blocking_core.specs.Ops.{op_next}
 use Rattle.blocking_core.specs.Slots.{Content, Empty, Full, GivenUp, Abandoned, empty_slot}
 use Rattle.blocking_core.specs.declared.io.Fault.{Fault}
 use Rattle.blocking_core.specs.Items.{item_next}
@@ -58,9 +58,9 @@ use Rattle.blocking_world_holders.specs.Sessions.{Session, Work, goods_of, seria
 use Rattle.blocking_world_holders.specs.Sessions.{filled, reach, front, session_after_close}
 use Rattle.blocking_world_holders.specs.Sessions.{session_after_drain, session_after_fill}
 use Rattle.blocking_world_holders.specs.Sessions.{session_after_look, session_after_give_up}
-use Rattle.blocking_world_holders.specs.Sessions.{give_up_wakes, streamer_works, work_by}
-use Rattle.blocking_world_holders.specs.Sessions.{writer_works, received, session_after_receive}
-use Rattle.blocking_world_holders.specs.Sessions.{session_after_find, seek_works, operation_works}
+use Rattle.blocking_world_holders.specs.Sessions.{give_up_wakes, item_works, read_works}
+use Rattle.blocking_world_holders.specs.Sessions.{write_works, received, session_after_receive}
+use Rattle.blocking_world_holders.specs.Sessions.{session_after_find, seek_works, op_works}
 use Rattle.blocking_world_holders.specs.Items as streams
 use Rattle.blocking_world_holders.specs.Writes as writes
 use Rattle.blocking_world_holders.specs.Seeks as seeks
@@ -134,9 +134,9 @@ poll_call_of begun handle_call.GetMut = poll_call.GetMut
 poll_call_of begun handle_call.IntoInner = poll_call.IntoInner
 
 -- the item that came out of the pipe of the last session last, or the result of its operation
-abbrev pub item_in : Option Session → ℕ
-item_in None = 0
-item_in (Some session) = session.item
+abbrev pub last_item : Option Session → ℕ
+last_item None = 0
+last_item (Some session) = session.item
 
 -- a reply, in the words of the laws, where this item or result came out last; there is none for a
 -- call that isn't asked once the handle is gone
@@ -238,7 +238,7 @@ next_by (action.Fill most) session = Acts 0
 next_by action.PollSlot session = Acts 0
 next_by action.PollResult session = Acts 0
 next_by action.DropHandle session = Acts 0
-next_by (action.Reply reply) session = next_to_say (reply_as (item_in session) reply)
+next_by (action.Reply reply) session = next_to_say (reply_as (last_item session) reply)
 next_by _ session = Rests
 
 abbrev pub next_at : OwnerStage → Option Session → OwnerNext
@@ -469,7 +469,7 @@ did_at _ poll session owner = None
 
 abbrev pub did_in : OwnerAction ℕ → OwnerMachine ℕ → Option Session → Owner → Option Did
 did_in (action.Reply reply) poll session owner =
-    reply_did (reply_as (item_in session) reply) poll owner
+    reply_did (reply_as (last_item session) reply) poll owner
 did_in (action.Fill most) poll session owner = fill_did_in poll owner.asked session owner
 did_in action.DropHandle poll session owner = Some (drop_did poll owner)
 did_in action poll None owner = None
@@ -571,7 +571,7 @@ calls_waker job owner = Some (record { act = HolderWoken; job = job; owner = own
 abbrev pub read_in : ReadAction → Option Session → reads.Progress → Owner → Option Worked
 read_in next None job owner = None
 read_in next (Some session) job owner =
-    worked_by of_job.Read (through OfBytes session.goods (work_by next job session)) owner
+    worked_by of_job.Read (through OfBytes session.goods (read_works next job session)) owner
 
 -- what it does next: it calls the waker that it took, or meets its owner
 abbrev pub read_as : ReadAction → reads.Progress → Owner → Option Worked
@@ -583,7 +583,7 @@ read_as next job owner = read_in next owner.session job owner
 abbrev pub write_in : WriteAction → Option Session → writes.Progress → Owner → Option Worked
 write_in next None job owner = None
 write_in next (Some session) job owner =
-    worked_by of_job.Write (through OfBytes session.goods (writer_works next job session)) owner
+    worked_by of_job.Write (through OfBytes session.goods (write_works next job session)) owner
 
 abbrev pub write_as : WriteAction → writes.Progress → Owner → Option Worked
 write_as write.Deliver job owner =
@@ -591,15 +591,15 @@ write_as write.Deliver job owner =
 write_as next job owner = write_in next owner.session job owner
 
 -- the same of a job that runs an iterator
-abbrev pub stream_in : ItemAction → Option Session → streams.Progress → Owner → Option Worked
-stream_in doing None job owner = None
-stream_in doing (Some session) job owner =
-    worked_by of_job.Items (through OfItems session.goods (streamer_works doing job session)) owner
+abbrev pub item_in : ItemAction → Option Session → streams.Progress → Owner → Option Worked
+item_in doing None job owner = None
+item_in doing (Some session) job owner =
+    worked_by of_job.Items (through OfItems session.goods (item_works doing job session)) owner
 
-abbrev pub stream_as : ItemAction → streams.Progress → Owner → Option Worked
-stream_as item.Deliver job owner =
+abbrev pub item_as : ItemAction → streams.Progress → Owner → Option Worked
+item_as item.Deliver job owner =
     calls_waker (of_job.Items (streams.progress_with job sent.Delivered)) owner
-stream_as doing job owner = stream_in doing owner.session job owner
+item_as doing job owner = item_in doing owner.session job owner
 
 -- the same of a job that seeks
 abbrev pub seek_in : SeekAction → Option Session → seeks.Progress → Owner → Option Worked
@@ -612,23 +612,23 @@ seek_as seek.Deliver job owner =
 seek_as next job owner = seek_in next owner.session job owner
 
 -- the same of a job that runs an operation
-abbrev pub operate_in : OpAction → Option Session → operations.Progress → Owner → Option Worked
-operate_in next None job owner = None
-operate_in next (Some session) job owner =
-    worked_by of_job.Operate (operation_works next job session) owner
+abbrev pub op_in : OpAction → Option Session → operations.Progress → Owner → Option Worked
+op_in next None job owner = None
+op_in next (Some session) job owner =
+    worked_by of_job.Operate (op_works next job session) owner
 
-abbrev pub operate_as : OpAction → operations.Progress → Owner → Option Worked
-operate_as operation.Deliver job owner =
+abbrev pub op_as : OpAction → operations.Progress → Owner → Option Worked
+op_as operation.Deliver job owner =
     calls_waker (of_job.Operate (operations.progress_with job ran.Delivered)) owner
-operate_as next job owner = operate_in next owner.session job owner
+op_as next job owner = op_in next owner.session job owner
 
 -- What its job does next, where that is the job's own.
 abbrev pub worked : SessionJob → Owner → Option Worked
 worked (of_job.Read job) owner = read_as (read_next job.core) job owner
 worked (of_job.Write job) owner = write_as (write_next job.core) job owner
-worked (of_job.Items job) owner = stream_as (item_next job.core) job owner
+worked (of_job.Items job) owner = item_as (item_next job.core) job owner
 worked (of_job.Seek job) owner = seek_as (seek_next job.core) job owner
-worked (of_job.Operate job) owner = operate_as (operation_next job.core) job owner
+worked (of_job.Operate job) owner = op_as (op_next job.core) job owner
 
 -- the answer of a call by which the job may act, and what it leaves: where it has no such act
 -- nothing changes

@@ -252,44 +252,44 @@ pub record Work (J : Type 0) : Type 0 where
   pub session : Session
 
 -- what becomes of a job and of its session, by what the job found
-abbrev pub work_at_room : Met ℕ → Progress → Session → Work Progress
-work_at_room met job session = record {
+abbrev pub read_at_room : Met ℕ → Progress → Session → Work Progress
+read_at_room met job session = record {
   act = seen_room met;
   job = progress_with job (room_answer met);
   session = session_after_room met session;
 }
 
-abbrev pub work_at_put : Met (Option (Unit {0})) → Progress → Session → Work Progress
-work_at_put met job session = record {
+abbrev pub read_at_put : Met (Option (Unit {0})) → Progress → Session → Work Progress
+read_at_put met job session = record {
   act = seen_put (length job.piece) met;
   job = progress_with job (put_answer met);
   session = session_after_put job.piece met session;
 }
 
 -- the job closes its end of the pipe
-abbrev pub work_of_close : Progress → Session → Work Progress
-work_of_close job session = record {
+abbrev pub read_closes : Progress → Session → Work Progress
+read_closes job session = record {
   act = JobClosed (waker_in (closing_wakes session));
   job = progress_with job (by.Closed (closing_wakes session));
   session = session_after_job_close session;
 }
 
 -- the job puts its result
-abbrev pub work_of_finish : Progress → Session → Work Progress
-work_of_finish job session = record {
+abbrev pub read_finishes : Progress → Session → Work Progress
+read_finishes job session = record {
   act = Finished (waker_in (finish_wakes job.fault session));
   job = progress_with job (by.Finished (finish_wakes job.fault session));
   session = session_after_finish job.fault session;
 }
 
 -- What it does next at its session, where that is its own to do: a put has to fit.
-abbrev pub work_by : ReadAction → Progress → Session → Option (Work Progress)
-work_by read.FindRoom job session = Some (work_at_room (found_room session) job session)
-work_by (read.Put count) job session = if fits_in job.piece session
-    then Some (work_at_put (found_put job.piece session) job session) else None
-work_by read.Close job session = Some (work_of_close job session)
-work_by read.Finish job session = Some (work_of_finish job session)
-work_by _ job session = None
+abbrev pub read_works : ReadAction → Progress → Session → Option (Work Progress)
+read_works read.FindRoom job session = Some (read_at_room (found_room session) job session)
+read_works (read.Put count) job session = if fits_in job.piece session
+    then Some (read_at_put (found_put job.piece session) job session) else None
+read_works read.Close job session = Some (read_closes job session)
+read_works read.Finish job session = Some (read_finishes job session)
+read_works _ job session = None
 
 -- ---- the same of a job that writes
 
@@ -299,32 +299,32 @@ job_after_peek (Served found) job = writes.progress_after_piece job found
 job_after_peek Waiting job = writes.progress_with job wrote.Parked
 job_after_peek Closed job = writes.progress_with job wrote.Drained
 
-abbrev pub work_at_peek : Met (List ℕ) → writes.Progress → Session → Work writes.Progress
-work_at_peek met job session = record {
+abbrev pub write_at_peek : Met (List ℕ) → writes.Progress → Session → Work writes.Progress
+write_at_peek met job session = record {
   act = seen_peek met;
   job = job_after_peek met job;
   session = session_after_peek met session;
 }
 
 -- so many bytes, which its writer took, leave the pipe
-abbrev pub work_of_consume : ℕ → writes.Progress → Session → Work writes.Progress
-work_of_consume count job session = record {
+abbrev pub write_consumes : ℕ → writes.Progress → Session → Work writes.Progress
+write_consumes count job session = record {
   act = Taken count (waker_in (closing_wakes session));
   job = writes.progress_with job (wrote.Consumed (closing_wakes session));
   session = session_after_consume count session;
 }
 
 -- it closes its end of the pipe
-abbrev pub writer_closes : writes.Progress → Session → Work writes.Progress
-writer_closes job session = record {
+abbrev pub write_closes : writes.Progress → Session → Work writes.Progress
+write_closes job session = record {
   act = JobClosed (waker_in (closing_wakes session));
   job = writes.progress_with job (wrote.Closed (closing_wakes session));
   session = session_after_job_close session;
 }
 
 -- it puts its result
-abbrev pub writer_finishes : writes.Progress → Session → Work writes.Progress
-writer_finishes job session = record {
+abbrev pub write_finishes : writes.Progress → Session → Work writes.Progress
+write_finishes job session = record {
   act = Finished (waker_in (finish_wakes (writes.fault_of job.core) session));
   job = writes.progress_with job (wrote.Finished (finish_wakes (writes.fault_of job.core) session));
   session = session_after_finish (writes.fault_of job.core) session;
@@ -332,13 +332,13 @@ writer_finishes job session = record {
 
 -- What it does next at its session, where that is its own to do: what it takes out has to be
 -- inside.
-abbrev pub writer_works : WriteAction → writes.Progress → Session → Option (Work writes.Progress)
-writer_works write.Peek job session = Some (work_at_peek (found_piece session) job session)
-writer_works (write.Consume count) job session =
-    if holds count session then Some (work_of_consume count job session) else None
-writer_works write.Close job session = Some (writer_closes job session)
-writer_works write.Finish job session = Some (writer_finishes job session)
-writer_works _ job session = None
+abbrev pub write_works : WriteAction → writes.Progress → Session → Option (Work writes.Progress)
+write_works write.Peek job session = Some (write_at_peek (found_piece session) job session)
+write_works (write.Consume count) job session =
+    if holds count session then Some (write_consumes count job session) else None
+write_works write.Close job session = Some (write_closes job session)
+write_works write.Finish job session = Some (write_finishes job session)
+write_works _ job session = None
 
 -- ---- the same of a job that runs an iterator
 
@@ -360,36 +360,36 @@ session_after_send x Waiting session =
     record session { pipe = record session.pipe { job_seat = Some session.number } }
 session_after_send x Closed session = session
 
-abbrev pub work_at_send : Met (Option (Unit {0})) → streams.Progress → Session
+abbrev pub item_at_send : Met (Option (Unit {0})) → streams.Progress → Session
     → Work streams.Progress
-work_at_send met job session = record {
+item_at_send met job session = record {
   act = seen_put 1 met;
   job = streams.progress_with job (send_answer met);
   session = session_after_send job.item met session;
 }
 
 -- it closes its end of the pipe
-abbrev pub streamer_closes : streams.Progress → Session → Work streams.Progress
-streamer_closes job session = record {
+abbrev pub item_closes : streams.Progress → Session → Work streams.Progress
+item_closes job session = record {
   act = JobClosed (waker_in (closing_wakes session));
   job = streams.progress_with job (sent.Closed (closing_wakes session));
   session = session_after_job_close session;
 }
 
 -- it puts its result, which is never a fault
-abbrev pub streamer_finishes : streams.Progress → Session → Work streams.Progress
-streamer_finishes job session = record {
+abbrev pub item_finishes : streams.Progress → Session → Work streams.Progress
+item_finishes job session = record {
   act = Finished (waker_in (finish_wakes None session));
   job = streams.progress_with job (sent.Finished (finish_wakes None session));
   session = session_after_finish None session;
 }
 
 -- What it does next at its session, where that is its own to do.
-abbrev pub streamer_works : ItemAction → streams.Progress → Session → Option (Work streams.Progress)
-streamer_works item.Send job session = Some (work_at_send (found_send session) job session)
-streamer_works item.Close job session = Some (streamer_closes job session)
-streamer_works item.Finish job session = Some (streamer_finishes job session)
-streamer_works _ job session = None
+abbrev pub item_works : ItemAction → streams.Progress → Session → Option (Work streams.Progress)
+item_works item.Send job session = Some (item_at_send (found_send session) job session)
+item_works item.Close job session = Some (item_closes job session)
+item_works item.Finish job session = Some (item_finishes job session)
+item_works _ job session = None
 
 -- ---- the same of a job that seeks
 
@@ -413,27 +413,27 @@ abbrev pub result_wakes : ℕ → Session → Bool
 result_wakes n session = is_some (put_in session.result n).wake
 
 -- it puts the result of its operation
-abbrev pub operation_puts : operations.Progress → Session → Work operations.Progress
-operation_puts job session = record {
+abbrev pub op_puts : operations.Progress → Session → Work operations.Progress
+op_puts job session = record {
   act = ResultPut (waker_in (result_wakes job.number session));
   job = operations.progress_with job (ran.ResultPut (result_wakes job.number session));
   session = record session { result = after_put session.result job.number };
 }
 
 -- it puts its own result, which is never a fault
-abbrev pub operation_finishes : operations.Progress → Session → Work operations.Progress
-operation_finishes job session = record {
+abbrev pub op_finishes : operations.Progress → Session → Work operations.Progress
+op_finishes job session = record {
   act = Finished (waker_in (finish_wakes None session));
   job = operations.progress_with job (ran.Finished (finish_wakes None session));
   session = session_after_finish None session;
 }
 
 -- What it does next at its session, where that is its own to do.
-abbrev pub operation_works : OpAction → operations.Progress → Session
+abbrev pub op_works : OpAction → operations.Progress → Session
     → Option (Work operations.Progress)
-operation_works operation.PutResult job session = Some (operation_puts job session)
-operation_works operation.Finish job session = Some (operation_finishes job session)
-operation_works _ job session = None
+op_works operation.PutResult job session = Some (op_puts job session)
+op_works operation.Finish job session = Some (op_finishes job session)
+op_works _ job session = None
 
 -- the answer of a call by which a job may act, and what it leaves: where it has no such act nothing
 -- changes

@@ -22,7 +22,7 @@ impl Model for OpProgress {
 }
 
 impl OpProgress {
-    ghost use Rattle.blocking_core.specs.Ops.{operation_next};
+    ghost use Rattle.blocking_core.specs.Ops.{op_next};
     ghost use Rattle.blocking_core.specs.declared.job.op.OpAnswer.TheVariants as by;
     ghost use Rattle.blocking_world_laws.specs.JobTable.{is_answer};
     ghost use Rattle.blocking_world_holders.specs.Ops.{not_begun, action_of, progress_after_answer, progress_after_number, progress_with};
@@ -39,7 +39,7 @@ impl OpProgress {
 
     /// The next action of the job.
     pub fn next(&self) -> OpAction
-        ensures { result ≡ operation_next self.now.core }
+        ensures { result ≡ op_next self.now.core }
     {
         self.core.next()
     }

@@ -195,7 +195,7 @@ impl Owner {
     ghost use Rattle.blocking_world_holders.specs.Owners.{new_owner, capacity_asked, goods_asked, is_gone, stage_after_reply, note_at, next_of, number_of, bytes_in, rests};
     ghost use Rattle.blocking_world_holders.specs.Owners.{owner_after_ask, did, did_in, reply_did, IsDid, goes_on};
     ghost use Rattle.blocking_world_holders.specs.Owners.{owner_after_begin, owner_after_refusal, owner_after_delivery, owner_after_drop};
-    ghost use Rattle.blocking_world_holders.specs.Owners.{may_ask, may_ask_at, item_in, drop_did, new_job_of, worked, IsWorked, give_up_act, owner_after_give_up};
+    ghost use Rattle.blocking_world_holders.specs.Owners.{may_ask, may_ask_at, last_item, drop_did, new_job_of, worked, IsWorked, give_up_act, owner_after_give_up};
 
     /// An owner of this client, with an idle handle. The pipes of its sessions hold so many bytes or items; 0 stands for 8,388,608 bytes and
     /// 8,192 items.
@@ -323,7 +323,7 @@ impl Owner {
 
     // The item that came out of the pipe of its last session last, or the result of its operation.
     fn item(&self) -> u64
-        ensures { result ≡ item_in self.now.session }
+        ensures { result ≡ last_item self.now.session }
     {
         match &self.session {
             Some(session) => session.item(),

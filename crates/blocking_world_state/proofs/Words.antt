@@ -1,7 +1,7 @@
 -- The words of the definitions that the proofs here speak of, by their names.
 -- of pipes, slots and machines
 pub use Rattle.blocking_core.specs.Items.{item_next}
-pub use Rattle.blocking_core.specs.Ops.{operation_next}
+pub use Rattle.blocking_core.specs.Ops.{op_next}
 pub use Rattle.blocking_core.specs.OwnerCalls.{OwnerMachine, owner_next}
 pub use Rattle.blocking_core.specs.Pipes.{Pipe, empty_pipe, room}
 pub use Rattle.blocking_core.specs.Places.{Met, Served, Waiting, Closed, drain, fill, peek}
@@ -72,7 +72,7 @@ pub use Rattle.blocking_world_holders.specs.OwnerTies.{state_as, newest_note, Be
 pub use Rattle.blocking_world_holders.specs.OwnerTies.{ResultAs, seat_of, LastAs, OwnerAs}
 pub use Rattle.blocking_world_holders.specs.OwnerTies.{OwnersHold}
 pub use Rattle.blocking_world_holders.specs.Owners.{Owner, new_owner, capacity_of, number_in}
-pub use Rattle.blocking_world_holders.specs.Owners.{number_of, item_in, reply_as, is_resting, rests}
+pub use Rattle.blocking_world_holders.specs.Owners.{number_of, last_item, reply_as, is_resting, rests}
 pub use Rattle.blocking_world_holders.specs.Owners.{is_gone, note_at, goes_on, front_in}
 pub use Rattle.blocking_world_holders.specs.Owners.{next_to_say, next_by, next_of, bytes_in}
 pub use Rattle.blocking_world_holders.specs.Owners.{after_ask, owner_after_ask, Did, looked_as}
@@ -86,8 +86,8 @@ pub use Rattle.blocking_world_holders.specs.Owners.{stage_after_refusal, owner_a
 pub use Rattle.blocking_world_holders.specs.Owners.{stage_after_delivery, owner_after_delivery}
 pub use Rattle.blocking_world_holders.specs.Owners.{stage_after_drop, owner_after_drop, Worked}
 pub use Rattle.blocking_world_holders.specs.Owners.{worked_by, calls_waker, read_in, read_as}
-pub use Rattle.blocking_world_holders.specs.Owners.{write_in, write_as, stream_in, stream_as}
-pub use Rattle.blocking_world_holders.specs.Owners.{seek_in, seek_as, operate_in, operate_as}
+pub use Rattle.blocking_world_holders.specs.Owners.{write_in, write_as, item_in, item_as}
+pub use Rattle.blocking_world_holders.specs.Owners.{seek_in, seek_as, op_in, op_as}
 pub use Rattle.blocking_world_holders.specs.Owners.{worked, IsWorked, without_job}
 pub use Rattle.blocking_world_holders.specs.Owners.{owner_after_give_up}
 pub use Rattle.blocking_world_holders.specs.Passages.{Goods, OfBytes, OfItems, pipe_in, through}
@@ -100,10 +100,10 @@ pub use Rattle.blocking_world_holders.specs.Sessions.{found_put, session_after_p
 pub use Rattle.blocking_world_holders.specs.Sessions.{closing_wakes, finish_wakes}
 pub use Rattle.blocking_world_holders.specs.Sessions.{session_after_job_close, session_after_finish}
 pub use Rattle.blocking_world_holders.specs.Sessions.{front, found_piece, session_after_peek, holds}
-pub use Rattle.blocking_world_holders.specs.Sessions.{session_after_consume, Work, work_at_put}
-pub use Rattle.blocking_world_holders.specs.Sessions.{work_by, work_of_consume, writer_works}
+pub use Rattle.blocking_world_holders.specs.Sessions.{session_after_consume, Work, read_at_put}
+pub use Rattle.blocking_world_holders.specs.Sessions.{read_works, write_consumes, write_works}
 pub use Rattle.blocking_world_holders.specs.Sessions.{found_send, session_after_send}
-pub use Rattle.blocking_world_holders.specs.Sessions.{streamer_works, result_wakes}
+pub use Rattle.blocking_world_holders.specs.Sessions.{item_works, result_wakes}
 pub use Rattle.blocking_world_holders.specs.Steps.{TaskStep, task_after, by_job, IsBeside}
 pub use Rattle.blocking_world_holders.specs.Tasks.{Task, new_task, may_be, has_let_go, task_act}
 pub use Rattle.blocking_world_holders.specs.Tasks.{task_after_call}

@@ -52,11 +52,11 @@ impl Model for OpCore {
 
 impl OpCore {
     ghost use Rattle.std.specs.Prelude.{◌≡◌};
-    ghost use Rattle.blocking_core.specs.Ops.{new_operation, operation_next, operation_after};
+    ghost use Rattle.blocking_core.specs.Ops.{new_op, op_next, op_after};
 
     /// The core of a job that hasn't begun.
     pub fn new() -> Self
-        ensures { result ≡ new_operation }
+        ensures { result ≡ new_op }
     {
         OpCore {
             next: OpAction::Call,
@@ -66,7 +66,7 @@ impl OpCore {
 
     /// The next action.
     pub fn next(&self) -> OpAction
-        ensures { result ≡ operation_next self.now }
+        ensures { result ≡ op_next self.now }
     {
         if self.is_waking {
             return OpAction::Deliver;
@@ -76,7 +76,7 @@ impl OpCore {
 
     /// Takes the answer to the next action. An answer of another kind changes nothing.
     pub fn answer(&mut self, answer: OpAnswer)
-        ensures { self.new ≡ operation_after self.old answer }
+        ensures { self.new ≡ op_after self.old answer }
     {
         if self.is_waking {
             self.is_waking = !matches!(answer, OpAnswer::Delivered);

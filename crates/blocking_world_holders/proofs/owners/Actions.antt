@@ -7,7 +7,7 @@ use Rattle.blocking_world_holders.proofs.Types.{Fault, ItemAction, OpAction, Rea
 use Rattle.blocking_world_holders.proofs.Types.{WriteAction, OwnerAction, Reply, Act, Event, Told}
 use Rattle.blocking_world_holders.proofs.Types.{HandleCall, SessionJob, OwnerNext, NextActs as Acts}
 use Rattle.blocking_world_holders.proofs.Types.{Rests, OwnerStage}
-use Rattle.blocking_world_holders.proofs.Words.{item_next, operation_next, OwnerMachine, owner_next}
+use Rattle.blocking_world_holders.proofs.Words.{item_next, op_next, OwnerMachine, owner_next}
 use Rattle.blocking_world_holders.proofs.Words.{read_next, seek_next, Abandoned, Content, GivenUp}
 use Rattle.blocking_world_holders.proofs.Words.{write_next, is_in, Consume, JobAction, Kind}
 use Rattle.blocking_world_holders.proofs.Words.{Operating, PutPiece, Reading, Seeking, Streaming}
@@ -19,25 +19,25 @@ use Rattle.blocking_world_holders.proofs.Words.{seen_is_into_inner, seen_is_pend
 use Rattle.blocking_world_holders.proofs.Words.{is_poll_over, seen_is_shut, jobs_of, kind_of_job}
 use Rattle.blocking_world_holders.proofs.Words.{seen_last_session, seen_may_ask, seen_rests}
 use Rattle.blocking_world_holders.proofs.Words.{seen_session, under_way, seen_was_asked_inner}
-use Rattle.blocking_world_holders.proofs.Words.{OperationAs, OpProgress, operation_action_as}
-use Rattle.blocking_world_holders.proofs.Words.{operation_action_of, Flows, HoldsResult, LastAs}
+use Rattle.blocking_world_holders.proofs.Words.{OperationAs, OpProgress, op_action_as}
+use Rattle.blocking_world_holders.proofs.Words.{op_action_of, Flows, HoldsResult, LastAs}
 use Rattle.blocking_world_holders.proofs.Words.{OwnerAs, SlotAs, has_found, is_told, state_as}
 use Rattle.blocking_world_holders.proofs.Words.{Owner, awaited_as, awaits_operation, close_did, did}
 use Rattle.blocking_world_holders.proofs.Words.{did_in, drain_did, fill_did, fill_did_in, find_did}
-use Rattle.blocking_world_holders.proofs.Words.{item_in, look_did, looked_as, may_ask, may_ask_at}
-use Rattle.blocking_world_holders.proofs.Words.{next_at, next_by, next_of, next_to_say, operate_as}
-use Rattle.blocking_world_holders.proofs.Words.{operate_in, read_as, read_in, receive_did, reply_as}
-use Rattle.blocking_world_holders.proofs.Words.{reply_did, rests, seek_as, seek_in, stream_as}
-use Rattle.blocking_world_holders.proofs.Words.{stream_in, worked, worked_by, write_as, write_in}
+use Rattle.blocking_world_holders.proofs.Words.{last_item, look_did, looked_as, may_ask, may_ask_at}
+use Rattle.blocking_world_holders.proofs.Words.{next_at, next_by, next_of, next_to_say, op_as}
+use Rattle.blocking_world_holders.proofs.Words.{op_in, read_as, read_in, receive_did, reply_as}
+use Rattle.blocking_world_holders.proofs.Words.{reply_did, rests, seek_as, seek_in, item_as}
+use Rattle.blocking_world_holders.proofs.Words.{item_in, worked, worked_by, write_as, write_in}
 use Rattle.blocking_world_holders.proofs.Words.{OfBytes, OfItems, is_piped, ReadProgress, ReadAs}
 use Rattle.blocking_world_holders.proofs.Words.{read_action_as, read_action_of, SeekProgress}
 use Rattle.blocking_world_holders.proofs.Words.{SeekAs, seek_action_as, seek_action_of, JobAs}
 use Rattle.blocking_world_holders.proofs.Words.{action_of, kind_of, Session, drained, filled}
 use Rattle.blocking_world_holders.proofs.Words.{fits_in, found_put, goods_of, holds}
-use Rattle.blocking_world_holders.proofs.Words.{operation_works, reach, received}
+use Rattle.blocking_world_holders.proofs.Words.{op_works, reach, received}
 use Rattle.blocking_world_holders.proofs.Words.{session_after_find, session_after_look}
-use Rattle.blocking_world_holders.proofs.Words.{streamer_works, work_at_put, work_by}
-use Rattle.blocking_world_holders.proofs.Words.{work_of_consume, writer_works, ItemAs, ItemProgress}
+use Rattle.blocking_world_holders.proofs.Words.{item_works, read_at_put, read_works}
+use Rattle.blocking_world_holders.proofs.Words.{write_consumes, write_works, ItemAs, ItemProgress}
 use Rattle.blocking_world_holders.proofs.Words.{item_action_as, item_action_of, WriteProgress}
 use Rattle.blocking_world_holders.proofs.Words.{WriteAs, write_action_as, write_action_of}
 use Rattle.blocking_world_holders.proofs.Clashes.{nothing}
@@ -49,10 +49,10 @@ use Rattle.blocking_world_holders.proofs.owners.States.{gone_is, is_lent, lent, 
 use Rattle.blocking_world_holders.proofs.owners.States.{may_be_asked, open_lent, open_piped}
 use Rattle.blocking_world_holders.proofs.owners.Steps.{its_last}
 use Rattle.blocking_world_holders.proofs.owners.ReadJobs as read_job
-use Rattle.blocking_world_holders.proofs.owners.ItemJobs as stream_job
+use Rattle.blocking_world_holders.proofs.owners.ItemJobs as item_job
 use Rattle.blocking_world_holders.proofs.owners.WriteJobs as write_job
 use Rattle.blocking_world_holders.proofs.owners.SeekJobs as seek_job
-use Rattle.blocking_world_holders.proofs.owners.OpJobs as operation_job
+use Rattle.blocking_world_holders.proofs.owners.OpJobs as op_job
 
 -- ---- its poll
 
@@ -93,7 +93,7 @@ rest_at bytes client asked (OwnerStage.Polls p) last cut t =
     by_next : (a : OwnerAction ℕ) → p.next ≡ a → false ≡ is_rest (next_by (owner_next p) last)
     by_next (OwnerAction.Reply r) is =
         sym (ap (λ a. is_rest (next_by a last)) (doing p t.stage.1 ∙ is)
-        ∙ to_say (reply_as (item_in last) r) (is_some_reply (item_in last) r
+        ∙ to_say (reply_as (last_item last) r) (is_some_reply (last_item last) r
         (fits_at bytes client asked p cut last (OwnerAction.Reply r) t is).0))
     by_next OwnerAction.Deliver is =
         absurd (fits_at bytes client asked p cut last OwnerAction.Deliver t is)
@@ -218,8 +218,8 @@ some_by : (bytes client : ℕ) (asked : Option HandleCall)
     → p.next ≡ a → (n : ℕ) → next_by a last ≡ Acts n
     → is_some (did_in a p last (owner_by_parts bytes client asked (OwnerStage.Polls p) last)) ≡ true
 some_by bytes client asked p cut (OwnerAction.Reply r) last t is n e =
-    told_some (reply_as (item_in last) r) p
-    (owner_by_parts bytes client asked (OwnerStage.Polls p) last) (is_some_reply (item_in last)
+    told_some (reply_as (last_item last) r) p
+    (owner_by_parts bytes client asked (OwnerStage.Polls p) last) (is_some_reply (last_item last)
     r (fits_at bytes client asked p cut last (OwnerAction.Reply r) t is).0)
 some_by bytes client asked p cut (OwnerAction.Fill most) last t is n e =
     let fits = fits_at bytes client asked p cut last (OwnerAction.Fill most) t is in
@@ -357,14 +357,14 @@ read_some owner cut n p t of r among asks over = by_next (read_next p.core) refl
         → is_over (read_action_as p.piece a) ≡ false
         → ((s : Session) → Flows Reading s (seen_is_shut (own cut)) (got (own cut))
         (accepted (own cut)) (read_action_as p.piece a) (acts_of s.number.serial cut)
-        → is_some (worked_by SessionJob.Read (work_by a p s) owner) ≡ true)
+        → is_some (worked_by SessionJob.Read (read_works a p s) owner) ≡ true)
         → is_some (read_in a owner.session p owner) ≡ true
     at_last a is other goes here =
         let m = meets owner cut n Reading (read_action_as p.piece a) t of among
         (read_job.does p (acts_of n cut) r is other).table goes in
         subst (λ o. is_some (read_in a o p owner) ≡ true) (sym m.here)
         (ap (λ w. is_some (worked_by SessionJob.Read w owner)) (through_here OfBytes m.session.goods
-        (work_by a p m.session) m.goods) ∙ here m.session m.flow)
+        (read_works a p m.session) m.goods) ∙ here m.session m.flow)
 
     by_next : (a : ReadAction) → read_next p.core ≡ a → is_asking (read_action_as p.piece a) ≡ false
         → is_over (read_action_as p.piece a) ≡ false → is_some (read_as a p owner) ≡ true
@@ -372,7 +372,7 @@ read_some owner cut n p t of r among asks over = by_next (read_next p.core) refl
     by_next (ReadAction.Put count) is asks over =
         at_last (ReadAction.Put count) is (λ e. cc) refl
         (λ s flow. ap (λ b. is_some (worked_by SessionJob.Read
-        (if b then Some (work_at_put (found_put p.piece s) p s) else None) owner))
+        (if b then Some (read_at_put (found_put p.piece s) p s) else None) owner))
         (put_fits s (seen_is_shut (own cut)) (got (own cut)) (accepted (own cut))
         (acts_of s.number.serial cut) p.piece flow))
     by_next (ReadAction.Read most) is asks over = absurd (cc)
@@ -391,14 +391,14 @@ write_some owner cut n p t of r among asks over = by_next (write_next p.core) re
         → is_over (write_action_as p.piece a) ≡ false
         → ((s : Session) → Flows Writing s (seen_is_shut (own cut)) (got (own cut))
         (accepted (own cut)) (write_action_as p.piece a) (acts_of s.number.serial cut)
-        → is_some (worked_by SessionJob.Write (writer_works a p s) owner) ≡ true)
+        → is_some (worked_by SessionJob.Write (write_works a p s) owner) ≡ true)
         → is_some (write_in a owner.session p owner) ≡ true
     at_last a is other goes here =
         let m = meets owner cut n Writing (write_action_as p.piece a) t of among
         (write_job.does p (acts_of n cut) r is other).table goes in
         subst (λ o. is_some (write_in a o p owner) ≡ true) (sym m.here)
         (ap (λ w. is_some (worked_by SessionJob.Write w owner)) (through_here OfBytes
-        m.session.goods (writer_works a p m.session) m.goods) ∙ here m.session m.flow)
+        m.session.goods (write_works a p m.session) m.goods) ∙ here m.session m.flow)
 
     by_next : (a : WriteAction) → write_next p.core ≡ a → is_asking (write_action_as p.piece a)
         ≡ false → is_over (write_action_as p.piece a) ≡ false → is_some (write_as a p owner) ≡ true
@@ -406,7 +406,7 @@ write_some owner cut n p t of r among asks over = by_next (write_next p.core) re
     by_next (WriteAction.Consume count) is asks over =
         at_last (WriteAction.Consume count) is (λ e. cc) refl
         (λ s flow. ap (λ b. is_some (worked_by SessionJob.Write
-        (if b then Some (work_of_consume count p s) else None) owner))
+        (if b then Some (write_consumes count p s) else None) owner))
         (taken_holds s (seen_is_shut (own cut)) (got (own cut)) (accepted (own cut))
         (acts_of s.number.serial cut) count flow))
     by_next (WriteAction.Write count) is asks over = absurd (cc)
@@ -415,26 +415,26 @@ write_some owner cut n p t of r among asks over = by_next (write_next p.core) re
     by_next a is asks over = at_last a is (λ e. cc) refl (λ s flow. refl)
 
 -- and one that runs an iterator
-stream_some : (owner : Owner) (cut : List Event) (n : ℕ) (p : ItemProgress)
+item_some : (owner : Owner) (cut : List Event) (n : ℕ) (p : ItemProgress)
     → OwnerAs owner cut → kind_of_job n (own cut) ≡ Streaming → ItemAs p (acts_of n cut)
     → is_in n (jobs_of (own cut)) ≡ true
     → is_asking (item_action_of p) ≡ false → is_over (item_action_of p) ≡ false
     → is_some (worked (SessionJob.Items p) owner) ≡ true
-stream_some owner cut n p t of r among asks over = by_next (item_next p.core) refl asks over
+item_some owner cut n p t of r among asks over = by_next (item_next p.core) refl asks over
   where
     at_last : (a : ItemAction) → item_next p.core ≡ a → (a ≡ ItemAction.Deliver → ⊥)
         → is_over (item_action_as p.item a) ≡ false
-        → ((s : Session) → is_some (worked_by SessionJob.Items (streamer_works a p s) owner) ≡ true)
-        → is_some (stream_in a owner.session p owner) ≡ true
+        → ((s : Session) → is_some (worked_by SessionJob.Items (item_works a p s) owner) ≡ true)
+        → is_some (item_in a owner.session p owner) ≡ true
     at_last a is other goes here =
         let m = meets owner cut n Streaming (item_action_as p.item a) t of among
-        (stream_job.does p (acts_of n cut) r is other).table goes in
-        subst (λ o. is_some (stream_in a o p owner) ≡ true) (sym m.here)
+        (item_job.does p (acts_of n cut) r is other).table goes in
+        subst (λ o. is_some (item_in a o p owner) ≡ true) (sym m.here)
         (ap (λ w. is_some (worked_by SessionJob.Items w owner)) (through_here OfItems
-        m.session.goods (streamer_works a p m.session) m.goods) ∙ here m.session)
+        m.session.goods (item_works a p m.session) m.goods) ∙ here m.session)
 
     by_next : (a : ItemAction) → item_next p.core ≡ a → is_asking (item_action_as p.item a) ≡ false
-        → is_over (item_action_as p.item a) ≡ false → is_some (stream_as a p owner) ≡ true
+        → is_over (item_action_as p.item a) ≡ false → is_some (item_as a p owner) ≡ true
     by_next ItemAction.Deliver is asks over = refl
     by_next ItemAction.Send is asks over = at_last ItemAction.Send is (λ e. cc) refl (λ s. refl)
     by_next ItemAction.Close is asks over = at_last ItemAction.Close is (λ e. cc) refl (λ s. refl)
@@ -460,24 +460,24 @@ seek_some owner cut n p t of r among asks over = by_next (seek_next p.core) refl
     by_next _ is asks over = absurd (cc)
 
 -- and one that runs an operation
-operate_some : (owner : Owner) (cut : List Event) (n : ℕ) (p : OpProgress)
+op_some : (owner : Owner) (cut : List Event) (n : ℕ) (p : OpProgress)
     → OwnerAs owner cut → kind_of_job n (own cut) ≡ Operating → OperationAs p (acts_of n cut)
     → is_in n (jobs_of (own cut)) ≡ true
-    → is_asking (operation_action_of p) ≡ false → is_over (operation_action_of p) ≡ false
+    → is_asking (op_action_of p) ≡ false → is_over (op_action_of p) ≡ false
     → is_some (worked (SessionJob.Operate p) owner) ≡ true
-operate_some owner cut n p t of r among asks over = by_next (operation_next p.core) refl asks over
+op_some owner cut n p t of r among asks over = by_next (op_next p.core) refl asks over
   where
-    at_last : (a : OpAction) → operation_next p.core ≡ a → (a ≡ OpAction.Deliver → ⊥)
-        → is_over (operation_action_as a) ≡ false
-        → ((s : Session) → is_some (worked_by SessionJob.Operate (operation_works a p s) owner)
-        ≡ true) → is_some (operate_in a owner.session p owner) ≡ true
+    at_last : (a : OpAction) → op_next p.core ≡ a → (a ≡ OpAction.Deliver → ⊥)
+        → is_over (op_action_as a) ≡ false
+        → ((s : Session) → is_some (worked_by SessionJob.Operate (op_works a p s) owner)
+        ≡ true) → is_some (op_in a owner.session p owner) ≡ true
     at_last a is other goes here =
-        let m = meets owner cut n Operating (operation_action_as a) t of among
-        (operation_job.does p (acts_of n cut) r is other).table goes in
-        subst (λ o. is_some (operate_in a o p owner) ≡ true) (sym m.here) (here m.session)
+        let m = meets owner cut n Operating (op_action_as a) t of among
+        (op_job.does p (acts_of n cut) r is other).table goes in
+        subst (λ o. is_some (op_in a o p owner) ≡ true) (sym m.here) (here m.session)
 
-    by_next : (a : OpAction) → operation_next p.core ≡ a → is_asking (operation_action_as a) ≡ false
-        → is_over (operation_action_as a) ≡ false → is_some (operate_as a p owner) ≡ true
+    by_next : (a : OpAction) → op_next p.core ≡ a → is_asking (op_action_as a) ≡ false
+        → is_over (op_action_as a) ≡ false → is_some (op_as a p owner) ≡ true
     by_next OpAction.Deliver is asks over = refl
     by_next OpAction.PutResult is asks over =
         at_last OpAction.PutResult is (λ e. cc) refl (λ s. refl)
@@ -494,8 +494,8 @@ works_some owner cut n (SessionJob.Read p) t of r among asks over =
 works_some owner cut n (SessionJob.Write p) t of r among asks over =
     write_some owner cut n p t of r among asks over
 works_some owner cut n (SessionJob.Items p) t of r among asks over =
-    stream_some owner cut n p t of r among asks over
+    item_some owner cut n p t of r among asks over
 works_some owner cut n (SessionJob.Seek p) t of r among asks over =
     seek_some owner cut n p t of r among asks over
 works_some owner cut n (SessionJob.Operate p) t of r among asks over =
-    operate_some owner cut n p t of r among asks over
+    op_some owner cut n p t of r among asks over

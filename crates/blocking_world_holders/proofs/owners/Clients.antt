@@ -11,16 +11,16 @@ use Rattle.blocking_world_holders.proofs.Words.{OwnerStep, ReadProgress, SeekPro
 use Rattle.blocking_world_holders.proofs.Words.{Session, Waiting, Work, WriteProgress, awaited_as}
 use Rattle.blocking_world_holders.proofs.Words.{close_did, did_by, did_in, drain_did, drained}
 use Rattle.blocking_world_holders.proofs.Words.{fill_did, fill_did_in, filled, find_did, if_piped}
-use Rattle.blocking_world_holders.proofs.Words.{item_in, item_next, look_did, looked_as, operate_as}
-use Rattle.blocking_world_holders.proofs.Words.{operate_in, operation_next, operation_works}
+use Rattle.blocking_world_holders.proofs.Words.{last_item, item_next, look_did, looked_as, op_as}
+use Rattle.blocking_world_holders.proofs.Words.{op_in, op_next, op_works}
 use Rattle.blocking_world_holders.proofs.Words.{owner_next, owner_after_step as owner_after}
 use Rattle.blocking_world_holders.proofs.Words.{owner_after_work, owner_in_step as owner_in, reach}
 use Rattle.blocking_world_holders.proofs.Words.{read_as, read_in, read_next, receive_did, received}
 use Rattle.blocking_world_holders.proofs.Words.{reply_as, reply_did, seek_as, seek_in, seek_next}
 use Rattle.blocking_world_holders.proofs.Words.{seek_works, session_after_find, session_after_look}
-use Rattle.blocking_world_holders.proofs.Words.{stream_as, stream_in, streamer_works, through}
-use Rattle.blocking_world_holders.proofs.Words.{work_by, worked_by, write_as, write_in, write_next}
-use Rattle.blocking_world_holders.proofs.Words.{writer_works}
+use Rattle.blocking_world_holders.proofs.Words.{item_as, item_in, item_works, through}
+use Rattle.blocking_world_holders.proofs.Words.{read_works, worked_by, write_as, write_in, write_next}
+use Rattle.blocking_world_holders.proofs.Words.{write_works}
 use Rattle.blocking_core.specs.Pipes.{Pipe, empty_pipe}
 use Rattle.blocking_world_holders.specs.Owners.{after_ask, after_begin, capacity_asked, did_at}
 use Rattle.blocking_world_holders.specs.Owners.{goods_asked}
@@ -96,7 +96,7 @@ module _ (poll : OwnerMachine ℕ) (owner : Owner) where
 
   in_stays : (doing : OwnerAction ℕ) (session : Option Session)
       → Stays (did_in doing poll session owner)
-  in_stays (OwnerAction.Reply reply) session = reply_stays (reply_as (item_in session) reply)
+  in_stays (OwnerAction.Reply reply) session = reply_stays (reply_as (last_item session) reply)
   in_stays (OwnerAction.Fill most) session = fills_stay owner.asked session
   in_stays OwnerAction.DropHandle session = refl
   in_stays OwnerAction.Close (Some s) = at_stays OwnerAction.Close s
@@ -124,29 +124,29 @@ module _ (owner : Owner) where
       → (owner_after_work (read_in next session job owner) owner).client ≡ owner.client
   read_stays next job None = refl
   read_stays next job (Some s) =
-      work_stays SessionJob.Read (through OfBytes s.goods (work_by next job s))
+      work_stays SessionJob.Read (through OfBytes s.goods (read_works next job s))
 
   write_stays : (next : WriteAction) (job : WriteProgress) (session : Option Session)
       → (owner_after_work (write_in next session job owner) owner).client ≡ owner.client
   write_stays next job None = refl
   write_stays next job (Some s) =
-      work_stays SessionJob.Write (through OfBytes s.goods (writer_works next job s))
+      work_stays SessionJob.Write (through OfBytes s.goods (write_works next job s))
 
-  stream_stays : (next : ItemAction) (job : ItemProgress) (session : Option Session)
-      → (owner_after_work (stream_in next session job owner) owner).client ≡ owner.client
-  stream_stays next job None = refl
-  stream_stays next job (Some s) =
-      work_stays SessionJob.Items (through OfItems s.goods (streamer_works next job s))
+  item_stays : (next : ItemAction) (job : ItemProgress) (session : Option Session)
+      → (owner_after_work (item_in next session job owner) owner).client ≡ owner.client
+  item_stays next job None = refl
+  item_stays next job (Some s) =
+      work_stays SessionJob.Items (through OfItems s.goods (item_works next job s))
 
   seek_stays : (next : SeekAction) (job : SeekProgress) (session : Option Session)
       → (owner_after_work (seek_in next session job owner) owner).client ≡ owner.client
   seek_stays next job None = refl
   seek_stays next job (Some s) = work_stays SessionJob.Seek (seek_works next job s)
 
-  operate_stays : (next : OpAction) (job : OpProgress) (session : Option Session)
-      → (owner_after_work (operate_in next session job owner) owner).client ≡ owner.client
-  operate_stays next job None = refl
-  operate_stays next job (Some s) = work_stays SessionJob.Operate (operation_works next job s)
+  op_stays : (next : OpAction) (job : OpProgress) (session : Option Session)
+      → (owner_after_work (op_in next session job owner) owner).client ≡ owner.client
+  op_stays next job None = refl
+  op_stays next job (Some s) = work_stays SessionJob.Operate (op_works next job s)
 
   reads_stay : (next : ReadAction) (job : ReadProgress)
       → (owner_after_work (read_as next job owner) owner).client ≡ owner.client
@@ -158,20 +158,20 @@ module _ (owner : Owner) where
   writes_stay WriteAction.Deliver job = refl
   writes_stay next job = write_stays next job owner.session
 
-  streams_stay : (next : ItemAction) (job : ItemProgress)
-      → (owner_after_work (stream_as next job owner) owner).client ≡ owner.client
-  streams_stay ItemAction.Deliver job = refl
-  streams_stay next job = stream_stays next job owner.session
+  items_stay : (next : ItemAction) (job : ItemProgress)
+      → (owner_after_work (item_as next job owner) owner).client ≡ owner.client
+  items_stay ItemAction.Deliver job = refl
+  items_stay next job = item_stays next job owner.session
 
   seeks_stay : (next : SeekAction) (job : SeekProgress)
       → (owner_after_work (seek_as next job owner) owner).client ≡ owner.client
   seeks_stay SeekAction.Deliver job = refl
   seeks_stay next job = seek_stays next job owner.session
 
-  operates_stay : (next : OpAction) (job : OpProgress)
-      → (owner_after_work (operate_as next job owner) owner).client ≡ owner.client
-  operates_stay OpAction.Deliver job = refl
-  operates_stay next job = operate_stays next job owner.session
+  ops_stay : (next : OpAction) (job : OpProgress)
+      → (owner_after_work (op_as next job owner) owner).client ≡ owner.client
+  ops_stay OpAction.Deliver job = refl
+  ops_stay next job = op_stays next job owner.session
 
 -- ---- any step
 
@@ -192,7 +192,7 @@ steady (Begins number) owner =
     begin_stays number (goods_asked owner) (empty_pipe (capacity_asked owner)) owner.stage owner
 steady (DoesWork (SessionJob.Read job)) owner = reads_stay owner (read_next job.core) job
 steady (DoesWork (SessionJob.Write job)) owner = writes_stay owner (write_next job.core) job
-steady (DoesWork (SessionJob.Items job)) owner = streams_stay owner (item_next job.core) job
+steady (DoesWork (SessionJob.Items job)) owner = items_stay owner (item_next job.core) job
 steady (DoesWork (SessionJob.Seek job)) owner = seeks_stay owner (seek_next job.core) job
-steady (DoesWork (SessionJob.Operate job)) owner = operates_stay owner (operation_next job.core) job
+steady (DoesWork (SessionJob.Operate job)) owner = ops_stay owner (op_next job.core) job
 steady _ owner = refl

@@ -5,7 +5,7 @@ use Rattle.std.proofs.Common.{None, if◌then◌else◌}
 use Rattle.blocking_world_holders.proofs.Types.{Fault, ItemAction, OpAction, ReadAction, SeekAction}
 use Rattle.blocking_world_holders.proofs.Types.{WriteAction, OwnerAction, Act, Told, HandleCall}
 use Rattle.blocking_world_holders.proofs.Types.{SessionJob, OwnerStage}
-use Rattle.blocking_world_holders.proofs.Words.{item_next, operation_next, OwnerMachine, owner_next}
+use Rattle.blocking_world_holders.proofs.Words.{item_next, op_next, OwnerMachine, owner_next}
 use Rattle.blocking_world_holders.proofs.Words.{Met, Served, read_next, seek_next, Abandoned}
 use Rattle.blocking_world_holders.proofs.Words.{Content, GivenUp, write_next, JobNumber}
 use Rattle.blocking_world_holders.proofs.Words.{accepted_by, seen_peek, seen_put, seen_room}
@@ -13,17 +13,17 @@ use Rattle.blocking_world_holders.proofs.Words.{is_nothing, is_of_pool, is_makin
 use Rattle.blocking_world_holders.proofs.Words.{Begins, Delivers, OwnerStep, DoesWork as Works}
 use Rattle.blocking_world_holders.proofs.Words.{act_in, act_of, act_of_work, delivered, Did, Owner}
 use Rattle.blocking_world_holders.proofs.Words.{Worked, awaited_as, did, did_by, did_in, drain_did}
-use Rattle.blocking_world_holders.proofs.Words.{fill_did, fill_did_in, find_did, item_in, look_did}
-use Rattle.blocking_world_holders.proofs.Words.{looked_as, note_at, operate_as, operate_in, read_as}
+use Rattle.blocking_world_holders.proofs.Words.{fill_did, fill_did_in, find_did, last_item, look_did}
+use Rattle.blocking_world_holders.proofs.Words.{looked_as, note_at, op_as, op_in, read_as}
 use Rattle.blocking_world_holders.proofs.Words.{read_in, receive_did, reply_as, reply_did, seek_as}
-use Rattle.blocking_world_holders.proofs.Words.{seek_in, stream_as, stream_in, worked, worked_by}
+use Rattle.blocking_world_holders.proofs.Words.{seek_in, item_as, item_in, worked, worked_by}
 use Rattle.blocking_world_holders.proofs.Words.{write_as, write_in, OfBytes, OfItems, through}
 use Rattle.blocking_world_holders.proofs.Words.{ReadProgress, SeekProgress, Session, Work, drained}
 use Rattle.blocking_world_holders.proofs.Words.{filled, fits_in, found_piece, found_put, found_room}
 use Rattle.blocking_world_holders.proofs.Words.{found_send, holds, reach, received}
 use Rattle.blocking_world_holders.proofs.Words.{session_after_find, session_after_look}
-use Rattle.blocking_world_holders.proofs.Words.{streamer_works, work_at_put, work_by}
-use Rattle.blocking_world_holders.proofs.Words.{work_of_consume, writer_works, ItemProgress}
+use Rattle.blocking_world_holders.proofs.Words.{item_works, read_at_put, read_works}
+use Rattle.blocking_world_holders.proofs.Words.{write_consumes, write_works, ItemProgress}
 use Rattle.blocking_world_holders.proofs.Words.{WriteProgress}
 use Rattle.blocking_world_holders.proofs.owners.Goods.{piped_some, through_some}
 use Rattle.blocking_world_holders.proofs.owners.Polls.{moved}
@@ -91,7 +91,7 @@ plain_find _ p s owner done e = moved PlainDid _ done e assumption
 
 plain_did : (next : OwnerAction ℕ) (p : OwnerMachine ℕ) (last : Option Session) (owner : Owner)
     (done : Did) → did_in next p last owner ≡ Some done → IsPlain [] done.act
-plain_did (OwnerAction.Reply r) p last owner done e = by_told (reply_as (item_in last) r) e
+plain_did (OwnerAction.Reply r) p last owner done e = by_told (reply_as (last_item last) r) e
   where
     by_told : (told : Option Told) → reply_did told p owner ≡ Some done → IsPlain [] done.act
     by_told (Some told) e = moved PlainDid _ done e assumption
@@ -119,42 +119,42 @@ plain_put : (n : ℕ) (met : Met (Option (Unit {0}))) → IsPlain [] (seen_put n
 plain_put n (Served seat) = assumption
 plain_put n _ = assumption
 
-plain_work : (a : ReadAction) (p : ReadProgress) (s : Session) (work : Work ReadProgress)
-    → work_by a p s ≡ Some work → IsPlain [] work.act
-plain_work ReadAction.FindRoom p s work e = moved PlainWork _ work e (plain_room (found_room s))
-plain_work (ReadAction.Put count) p s work e = at (fits_in p.piece s) e
+plain_read_work : (a : ReadAction) (p : ReadProgress) (s : Session) (work : Work ReadProgress)
+    → read_works a p s ≡ Some work → IsPlain [] work.act
+plain_read_work ReadAction.FindRoom p s work e = moved PlainWork _ work e (plain_room (found_room s))
+plain_read_work (ReadAction.Put count) p s work e = at (fits_in p.piece s) e
   where
-    at : (b : Bool) → (if b then Some (work_at_put (found_put p.piece s) p s) else None) ≡ Some work
+    at : (b : Bool) → (if b then Some (read_at_put (found_put p.piece s) p s) else None) ≡ Some work
         → IsPlain [] work.act
     at true e = moved PlainWork _ work e (plain_put _ (found_put p.piece s))
     at false e = absurd (cc)
-plain_work ReadAction.Close p s work e = moved PlainWork _ work e assumption
-plain_work ReadAction.Finish p s work e = moved PlainWork _ work e assumption
-plain_work _ p s work e = absurd (cc)
+plain_read_work ReadAction.Close p s work e = moved PlainWork _ work e assumption
+plain_read_work ReadAction.Finish p s work e = moved PlainWork _ work e assumption
+plain_read_work _ p s work e = absurd (cc)
 
 plain_peek : (met : Met (List ℕ)) → IsPlain [] (seen_peek met)
 plain_peek (Served piece) = assumption
 plain_peek _ = assumption
 
-plain_writer : (a : WriteAction) (p : WriteProgress) (s : Session) (work : Work WriteProgress)
-    → writer_works a p s ≡ Some work → IsPlain [] work.act
-plain_writer WriteAction.Peek p s work e = moved PlainWork _ work e (plain_peek (found_piece s))
-plain_writer (WriteAction.Consume count) p s work e = at (holds count s) e
+plain_write_work : (a : WriteAction) (p : WriteProgress) (s : Session) (work : Work WriteProgress)
+    → write_works a p s ≡ Some work → IsPlain [] work.act
+plain_write_work WriteAction.Peek p s work e = moved PlainWork _ work e (plain_peek (found_piece s))
+plain_write_work (WriteAction.Consume count) p s work e = at (holds count s) e
   where
-    at : (b : Bool) → (if b then Some (work_of_consume count p s) else None) ≡ Some work
+    at : (b : Bool) → (if b then Some (write_consumes count p s) else None) ≡ Some work
         → IsPlain [] work.act
     at true e = moved PlainWork _ work e assumption
     at false e = absurd (cc)
-plain_writer WriteAction.Close p s work e = moved PlainWork _ work e assumption
-plain_writer WriteAction.Finish p s work e = moved PlainWork _ work e assumption
-plain_writer _ p s work e = absurd (cc)
+plain_write_work WriteAction.Close p s work e = moved PlainWork _ work e assumption
+plain_write_work WriteAction.Finish p s work e = moved PlainWork _ work e assumption
+plain_write_work _ p s work e = absurd (cc)
 
-plain_streamer : (a : ItemAction) (p : ItemProgress) (s : Session) (work : Work ItemProgress)
-    → streamer_works a p s ≡ Some work → IsPlain [] work.act
-plain_streamer ItemAction.Send p s work e = moved PlainWork _ work e (plain_put 1 (found_send s))
-plain_streamer ItemAction.Close p s work e = moved PlainWork _ work e assumption
-plain_streamer ItemAction.Finish p s work e = moved PlainWork _ work e assumption
-plain_streamer _ p s work e = absurd (cc)
+plain_item_work : (a : ItemAction) (p : ItemProgress) (s : Session) (work : Work ItemProgress)
+    → item_works a p s ≡ Some work → IsPlain [] work.act
+plain_item_work ItemAction.Send p s work e = moved PlainWork _ work e (plain_put 1 (found_send s))
+plain_item_work ItemAction.Close p s work e = moved PlainWork _ work e assumption
+plain_item_work ItemAction.Finish p s work e = moved PlainWork _ work e assumption
+plain_item_work _ p s work e = absurd (cc)
 
 -- what a job does at its session
 plain_by : {J : Type 0} (job_of : J → SessionJob) (o : Option (Work J)) (owner : Owner)
@@ -163,75 +163,75 @@ plain_by : {J : Type 0} (job_of : J → SessionJob) (o : Option (Work J)) (owner
 plain_by job_of None owner done plain e = absurd (cc)
 plain_by job_of (Some work) owner done plain e = moved PlainWorked _ done e (plain work refl)
 
-plain_in : (a : ReadAction) (last : Option Session) (p : ReadProgress) (owner : Owner)
+plain_read_in : (a : ReadAction) (last : Option Session) (p : ReadProgress) (owner : Owner)
     (done : Worked) → read_in a last p owner ≡ Some done → IsPlain [] done.act
-plain_in a None p owner done e = absurd (cc)
-plain_in a (Some s) p owner done e =
-    plain_by SessionJob.Read (through OfBytes s.goods (work_by a p s)) owner done (λ work does.
-    plain_work a p s work (through_some OfBytes s.goods (work_by a p s) work does).1) e
+plain_read_in a None p owner done e = absurd (cc)
+plain_read_in a (Some s) p owner done e =
+    plain_by SessionJob.Read (through OfBytes s.goods (read_works a p s)) owner done (λ work does.
+    plain_read_work a p s work (through_some OfBytes s.goods (read_works a p s) work does).1) e
 
 plain_read : (a : ReadAction) (p : ReadProgress) (owner : Owner) (done : Worked)
     → read_as a p owner ≡ Some done → IsPlain [] done.act
 plain_read ReadAction.Deliver p owner done e = moved PlainWorked _ done e assumption
-plain_read a p owner done e = plain_in a owner.session p owner done e
+plain_read a p owner done e = plain_read_in a owner.session p owner done e
 
-plain_out : (a : WriteAction) (last : Option Session) (p : WriteProgress) (owner : Owner)
+plain_write_in : (a : WriteAction) (last : Option Session) (p : WriteProgress) (owner : Owner)
     (done : Worked) → write_in a last p owner ≡ Some done → IsPlain [] done.act
-plain_out a None p owner done e = absurd (cc)
-plain_out a (Some s) p owner done e = plain_by
-    SessionJob.Write (through OfBytes s.goods (writer_works a p s)) owner done (λ work does.
-    plain_writer a p s work (through_some OfBytes s.goods (writer_works a p s) work does).1) e
+plain_write_in a None p owner done e = absurd (cc)
+plain_write_in a (Some s) p owner done e = plain_by
+    SessionJob.Write (through OfBytes s.goods (write_works a p s)) owner done (λ work does.
+    plain_write_work a p s work (through_some OfBytes s.goods (write_works a p s) work does).1) e
 
 plain_write : (a : WriteAction) (p : WriteProgress) (owner : Owner) (done : Worked)
     → write_as a p owner ≡ Some done → IsPlain [] done.act
 plain_write WriteAction.Deliver p owner done e = moved PlainWorked _ done e assumption
-plain_write a p owner done e = plain_out a owner.session p owner done e
+plain_write a p owner done e = plain_write_in a owner.session p owner done e
 
-plain_sent : (a : ItemAction) (last : Option Session) (p : ItemProgress) (owner : Owner)
-    (done : Worked) → stream_in a last p owner ≡ Some done → IsPlain [] done.act
-plain_sent a None p owner done e = absurd (cc)
-plain_sent a (Some s) p owner done e =
-    plain_by SessionJob.Items (through OfItems s.goods (streamer_works a p s))
-    owner done (λ work does. plain_streamer a p s work
-    (through_some OfItems s.goods (streamer_works a p s) work does).1) e
+plain_item_in : (a : ItemAction) (last : Option Session) (p : ItemProgress) (owner : Owner)
+    (done : Worked) → item_in a last p owner ≡ Some done → IsPlain [] done.act
+plain_item_in a None p owner done e = absurd (cc)
+plain_item_in a (Some s) p owner done e =
+    plain_by SessionJob.Items (through OfItems s.goods (item_works a p s))
+    owner done (λ work does. plain_item_work a p s work
+    (through_some OfItems s.goods (item_works a p s) work does).1) e
 
-plain_stream : (a : ItemAction) (p : ItemProgress) (owner : Owner) (done : Worked)
-    → stream_as a p owner ≡ Some done → IsPlain [] done.act
-plain_stream ItemAction.Deliver p owner done e = moved PlainWorked _ done e assumption
-plain_stream a p owner done e = plain_sent a owner.session p owner done e
+plain_item : (a : ItemAction) (p : ItemProgress) (owner : Owner) (done : Worked)
+    → item_as a p owner ≡ Some done → IsPlain [] done.act
+plain_item ItemAction.Deliver p owner done e = moved PlainWorked _ done e assumption
+plain_item a p owner done e = plain_item_in a owner.session p owner done e
 
-plain_sought : (a : SeekAction) (last : Option Session) (p : SeekProgress) (owner : Owner)
+plain_seek_in : (a : SeekAction) (last : Option Session) (p : SeekProgress) (owner : Owner)
     (done : Worked) → seek_in a last p owner ≡ Some done → IsPlain [] done.act
-plain_sought a None p owner done e = absurd (cc)
-plain_sought SeekAction.Finish (Some s) p owner done e = moved PlainWorked _ done e assumption
-plain_sought _ (Some s) p owner done e = absurd (cc)
+plain_seek_in a None p owner done e = absurd (cc)
+plain_seek_in SeekAction.Finish (Some s) p owner done e = moved PlainWorked _ done e assumption
+plain_seek_in _ (Some s) p owner done e = absurd (cc)
 
 plain_seek : (a : SeekAction) (p : SeekProgress) (owner : Owner) (done : Worked)
     → seek_as a p owner ≡ Some done → IsPlain [] done.act
 plain_seek SeekAction.Deliver p owner done e = moved PlainWorked _ done e assumption
-plain_seek a p owner done e = plain_sought a owner.session p owner done e
+plain_seek a p owner done e = plain_seek_in a owner.session p owner done e
 
-plain_operated : (a : OpAction) (last : Option Session) (p : OpProgress) (owner : Owner)
-    (done : Worked) → operate_in a last p owner ≡ Some done → IsPlain [] done.act
-plain_operated a None p owner done e = absurd (cc)
-plain_operated OpAction.PutResult (Some s) p owner done e = moved PlainWorked _ done e assumption
-plain_operated OpAction.Finish (Some s) p owner done e = moved PlainWorked _ done e assumption
-plain_operated _ (Some s) p owner done e = absurd (cc)
+plain_op_in : (a : OpAction) (last : Option Session) (p : OpProgress) (owner : Owner)
+    (done : Worked) → op_in a last p owner ≡ Some done → IsPlain [] done.act
+plain_op_in a None p owner done e = absurd (cc)
+plain_op_in OpAction.PutResult (Some s) p owner done e = moved PlainWorked _ done e assumption
+plain_op_in OpAction.Finish (Some s) p owner done e = moved PlainWorked _ done e assumption
+plain_op_in _ (Some s) p owner done e = absurd (cc)
 
-plain_operate : (a : OpAction) (p : OpProgress) (owner : Owner) (done : Worked)
-    → operate_as a p owner ≡ Some done → IsPlain [] done.act
-plain_operate OpAction.Deliver p owner done e = moved PlainWorked _ done e assumption
-plain_operate a p owner done e = plain_operated a owner.session p owner done e
+plain_op : (a : OpAction) (p : OpProgress) (owner : Owner) (done : Worked)
+    → op_as a p owner ≡ Some done → IsPlain [] done.act
+plain_op OpAction.Deliver p owner done e = moved PlainWorked _ done e assumption
+plain_op a p owner done e = plain_op_in a owner.session p owner done e
 
 -- an act of a job, whatever it does
 plain_worked : (p : SessionJob) (owner : Owner) (done : Worked) → worked p owner ≡ Some done
     → IsPlain [] done.act
 plain_worked (SessionJob.Read p) owner done e = plain_read (read_next p.core) p owner done e
 plain_worked (SessionJob.Write p) owner done e = plain_write (write_next p.core) p owner done e
-plain_worked (SessionJob.Items p) owner done e = plain_stream (item_next p.core) p owner done e
+plain_worked (SessionJob.Items p) owner done e = plain_item (item_next p.core) p owner done e
 plain_worked (SessionJob.Seek p) owner done e = plain_seek (seek_next p.core) p owner done e
 plain_worked (SessionJob.Operate p) owner done e =
-    plain_operate (operation_next p.core) p owner done e
+    plain_op (op_next p.core) p owner done e
 
 -- each step
 pub plain_of : (step : OwnerStep) (owner : Owner) (act : Act) → act_of step owner ≡ Some act

@@ -11,7 +11,7 @@ use Rattle.blocking_world_holders.proofs.Types.{Lost, Peeked, Put, ResultPut, Ro
 use Rattle.blocking_world_holders.proofs.Types.{TakenOut, Event, HandleAnswer}
 use Rattle.blocking_world_holders.proofs.Types.{HandleCall, OwnerStage}
 use Rattle.blocking_world_holders.proofs.Types.{Asked, Back, Replied}
-use Rattle.blocking_world_holders.proofs.Words.{item_next, operation_next, Pipe, room, Closed, Met}
+use Rattle.blocking_world_holders.proofs.Words.{item_next, op_next, Pipe, room, Closed, Met}
 use Rattle.blocking_world_holders.proofs.Words.{Served, Waiting, find_room, hand_in, peek}
 use Rattle.blocking_world_holders.proofs.Words.{read_next, seek_next, Slot, after_put, answer_of}
 use Rattle.blocking_world_holders.proofs.Words.{slot_after, slot_without_job, waker_out_of}
@@ -34,20 +34,20 @@ use Rattle.blocking_world_holders.proofs.Words.{is_nothing, is_of_pool, own, See
 use Rattle.blocking_world_holders.proofs.Words.{seen_is_dropped, seen_is_shut, jobs_of, kind_of_job}
 use Rattle.blocking_world_holders.proofs.Words.{seen_last_session, seen_session, seen_state}
 use Rattle.blocking_world_holders.proofs.Words.{was_woken, OperationAs, OpProgress}
-use Rattle.blocking_world_holders.proofs.Words.{operation_action_of, by_its_job, IsAtEnd, OwnerAs}
+use Rattle.blocking_world_holders.proofs.Words.{op_action_of, by_its_job, IsAtEnd, OwnerAs}
 use Rattle.blocking_world_holders.proofs.Words.{PlaceAs, PlaceBy, ResultAs, SessionAs, StageBy}
 use Rattle.blocking_world_holders.proofs.Words.{has_found, is_seated, newest_note}
 use Rattle.blocking_world_holders.proofs.Words.{ReadProgress as Progress, ReadAs}
 use Rattle.blocking_world_holders.proofs.Words.{read_action_of as action_of, SeekProgress, SeekAs}
 use Rattle.blocking_world_holders.proofs.Words.{seek_action_of, Session, Work, finish_wakes}
 use Rattle.blocking_world_holders.proofs.Words.{fits_in, found_piece, found_put, found_room}
-use Rattle.blocking_world_holders.proofs.Words.{found_send, give_up_wakes, operation_finishes}
-use Rattle.blocking_world_holders.proofs.Words.{operation_puts, result_wakes, seek_finishes}
+use Rattle.blocking_world_holders.proofs.Words.{found_send, give_up_wakes, op_finishes}
+use Rattle.blocking_world_holders.proofs.Words.{op_puts, result_wakes, seek_finishes}
 use Rattle.blocking_world_holders.proofs.Words.{session_after_give_up, session_after_job_close}
-use Rattle.blocking_world_holders.proofs.Words.{streamer_closes, streamer_finishes, work_at_peek}
-use Rattle.blocking_world_holders.proofs.Words.{work_at_put, work_at_room, work_at_send}
-use Rattle.blocking_world_holders.proofs.Words.{work_of_close, work_of_consume, work_of_finish}
-use Rattle.blocking_world_holders.proofs.Words.{writer_closes, writer_finishes, ItemAs}
+use Rattle.blocking_world_holders.proofs.Words.{item_closes, item_finishes, write_at_peek}
+use Rattle.blocking_world_holders.proofs.Words.{read_at_put, read_at_room, item_at_send}
+use Rattle.blocking_world_holders.proofs.Words.{read_closes, write_consumes, read_finishes}
+use Rattle.blocking_world_holders.proofs.Words.{write_closes, write_finishes, ItemAs}
 use Rattle.blocking_world_holders.proofs.Words.{ItemProgress, item_action_of, WriteProgress}
 use Rattle.blocking_world_holders.proofs.Words.{WriteAs, write_action_of, write_fault_of}
 use Rattle.blocking_world_laws.specs.OwnerTable as law
@@ -59,11 +59,11 @@ use Rattle.blocking_world_holders.proofs.owners.ReadSessions.{At, at, finds, fin
 use Rattle.blocking_world_holders.proofs.owners.ReadSessions.{puts, loses, closes, finishes}
 use Rattle.blocking_world_holders.proofs.owners.ReadSessions.{gives_up, going, some_room, put_is}
 use Rattle.blocking_world_holders.proofs.owners.WriteSessions.{peeks, peek_parks, drains, consumes}
-use Rattle.blocking_world_holders.proofs.owners.WriteSessions.{writer_answers}
+use Rattle.blocking_world_holders.proofs.owners.WriteSessions.{write_answers}
 use Rattle.blocking_world_holders.proofs.owners.ItemSessions.{item_answers, send_loses, send_parks}
 use Rattle.blocking_world_holders.proofs.owners.ItemSessions.{sends}
 use Rattle.blocking_world_holders.proofs.owners.SeekSessions.{seek_answers, seek_puts}
-use Rattle.blocking_world_holders.proofs.owners.OpSessions.{operation_answers, result_puts}
+use Rattle.blocking_world_holders.proofs.owners.OpSessions.{op_answers, result_puts}
 use Rattle.blocking_world_holders.proofs.owners.Results.{is_operating}
 use Rattle.blocking_world_holders.proofs.owners.ReadSessions as Sessions
 use Rattle.blocking_world_holders.proofs.owners.Machines.{asking_goes}
@@ -493,7 +493,7 @@ module _ (bytes client : ℕ) (asked : Option HandleCall) (here : OwnerStage)
         ∙ ap (λ b. find_room (room_in cut) b) (sym (open_is s (bound bytes) cut t.last))
 
     pub room_works : read_next p.core ≡ ReadAction.FindRoom → (met : Met ℕ) → found_room s ≡ met
-        → Reads (work_at_room met p s)
+        → Reads (read_at_room met p s)
     room_works is (Served zero) found =
         absurd (let some = (some_room (room s.pipe) 0 s.pipe.is_owner_open found).1 in omega arith)
     room_works is (Served (suc n)) found =
@@ -523,7 +523,7 @@ module _ (bytes client : ℕ) (asked : Option HandleCall) (here : OwnerStage)
     put_found = handed_in (length p.piece)
 
     pub put_works : (count : ℕ) → read_next p.core ≡ ReadAction.Put count → fits_in p.piece s ≡ true
-        → (met : Met (Option (Unit {0}))) → found_put p.piece s ≡ met → Reads (work_at_put met p s)
+        → (met : Met (Option (Unit {0}))) → found_put p.piece s ≡ met → Reads (read_at_put met p s)
     put_works count is fits Waiting found = absurd
         (no_wait (length p.piece) (room s.pipe) s.pipe.is_owner_open s.pipe.owner_seat fits found)
     put_works count is fits (Served seat) found =
@@ -552,14 +552,14 @@ module _ (bytes client : ℕ) (asked : Option HandleCall) (here : OwnerStage)
         d.table))
 
     -- it closes its end of the pipe
-    pub close_works : read_next p.core ≡ ReadAction.Close → Reads (work_of_close p s)
+    pub close_works : read_next p.core ≡ ReadAction.Close → Reads (read_closes p s)
     close_works is =
         let d = of_reader.does p acts r is (λ e. cc) in
         let now = tied Reading reads among CloseEnd d.table in
         closes_goes Reading reads among refl d.law now.flow.passed_is.0 now
 
     -- it puts its result
-    pub finish_works : read_next p.core ≡ ReadAction.Finish → Reads (work_of_finish p s)
+    pub finish_works : read_next p.core ≡ ReadAction.Finish → Reads (read_finishes p s)
     finish_works is =
         let d = of_reader.does p acts r is (λ e. cc) in
         let now = tied Reading reads among Finish d.table in
@@ -594,7 +594,7 @@ module _ (bytes client : ℕ) (asked : Option HandleCall) (here : OwnerStage)
         ∙ ap (λ b. peek piece (inside cut) b) (sym (open_is s (bound bytes) cut t.last))
 
     pub peek_works : write_next p.core ≡ WriteAction.Peek → (met : Met (List ℕ))
-        → found_piece s ≡ met → Writes (work_at_peek met p s)
+        → found_piece s ≡ met → Writes (write_at_peek met p s)
     peek_works is (Served found) shows =
         let d = of_writer.does p acts r is (λ e. cc) in
         stays_goes Writing writing among refl (Peeked found) s.pipe.job_seat refl (refl, refl)
@@ -619,7 +619,7 @@ module _ (bytes client : ℕ) (asked : Option HandleCall) (here : OwnerStage)
 
     -- what its writer took leaves the pipe
     pub consume_works : (n : ℕ) → write_next p.core ≡ WriteAction.Consume n
-        → Writes (work_of_consume n p s)
+        → Writes (write_consumes n p s)
     consume_works n is =
         let d = of_writer.does p acts r is (λ e. cc) in
         let now = tied Writing writing among (Consume n)
@@ -635,8 +635,8 @@ module _ (bytes client : ℕ) (asked : Option HandleCall) (here : OwnerStage)
         (takes_it (is_some s.pipe.owner_seat))
 
     -- it closes its end of the pipe
-    pub writer_close_works : write_next p.core ≡ WriteAction.Close → Writes (writer_closes p s)
-    writer_close_works is =
+    pub write_close_works : write_next p.core ≡ WriteAction.Close → Writes (write_closes p s)
+    write_close_works is =
         let d = of_writer.does p acts r is (λ e. cc) in
         let now =
         tied Writing writing among CloseEnd d.table in
@@ -644,8 +644,8 @@ module _ (bytes client : ℕ) (asked : Option HandleCall) (here : OwnerStage)
         now.flow.written_is.0 now
 
     -- it puts its result
-    pub writer_finish_works : write_next p.core ≡ WriteAction.Finish → Writes (writer_finishes p s)
-    writer_finish_works is =
+    pub write_finish_works : write_next p.core ≡ WriteAction.Finish → Writes (write_finishes p s)
+    write_finish_works is =
         let d = of_writer.does p acts r is (λ e. cc) in
         let now =
         tied Writing writing among Finish d.table in
@@ -656,15 +656,15 @@ module _ (bytes client : ℕ) (asked : Option HandleCall) (here : OwnerStage)
         ps ss waker (write_fault_of p.core) r.fault_is tt now)
 
     -- its writer answers
-    pub writer_answer_goes : (answer : HandleAnswer) → is_answer (write_action_of p) answer ≡ true
+    pub write_answer_goes : (answer : HandleAnswer) → is_answer (write_action_of p) answer ≡ true
         → Goes (owner_by_parts bytes client asked here (Some s)) cut (event (Answered answer))
-    writer_answer_goes answer is =
+    write_answer_goes answer is =
         let d = (of_writer.asks p acts answer r is).does in
         let now = write_action_of p in
         answers_goes Writing writing among answer now is d.law
         (tied Writing writing among now d.table)
         (same_place Writing writing refl (Answered answer) refl refl)
-        (writer_answers s (bound bytes Writing) began shut over gone took written acts js ps ss now
+        (write_answers s (bound bytes Writing) began shut over gone took written acts js ps ss now
         answer is d.table (last_as Writing writing))
 
   -- ---- the acts of a job that runs an iterator, at the session
@@ -679,7 +679,7 @@ module _ (bytes client : ℕ) (asked : Option HandleCall) (here : OwnerStage)
     send_found = handed_in 1
 
     pub send_works : item_next p.core ≡ ItemAction.Send → (met : Met (Option (Unit {0})))
-        → found_send s ≡ met → Streams (work_at_send met p s)
+        → found_send s ≡ met → Streams (item_at_send met p s)
     send_works is (Served seat) found =
         let d = of_streamer.does p acts r is (λ e. cc) in
         let now = tied Streaming streaming among (SendItem p.item)
@@ -712,8 +712,8 @@ module _ (bytes client : ℕ) (asked : Option HandleCall) (here : OwnerStage)
         d.table))
 
     -- it closes its end of the pipe
-    pub streamer_close_works : item_next p.core ≡ ItemAction.Close → Streams (streamer_closes p s)
-    streamer_close_works is =
+    pub item_close_works : item_next p.core ≡ ItemAction.Close → Streams (item_closes p s)
+    item_close_works is =
         let d = of_streamer.does p acts r is (λ e. cc) in
         let now = tied Streaming streaming among CloseEnd
         d.table in
@@ -721,9 +721,9 @@ module _ (bytes client : ℕ) (asked : Option HandleCall) (here : OwnerStage)
         now.flow.passed_is.0 now
 
     -- it puts its result
-    pub streamer_finish_works : item_next p.core ≡ ItemAction.Finish
-        → Streams (streamer_finishes p s)
-    streamer_finish_works is =
+    pub item_finish_works : item_next p.core ≡ ItemAction.Finish
+        → Streams (item_finishes p s)
+    item_finish_works is =
         let d = of_streamer.does p acts r is (λ e. cc) in
         let now =
         tied Streaming streaming among Finish d.table in
@@ -789,7 +789,7 @@ module _ (bytes client : ℕ) (asked : Option HandleCall) (here : OwnerStage)
         (subst (λ any. PlaceBy s.result any acts came rs) operating t.place)
 
     -- it puts the result
-    pub result_works : operation_next p.core ≡ OpAction.PutResult → Operates (operation_puts p s)
+    pub result_works : op_next p.core ≡ OpAction.PutResult → Operates (op_puts p s)
     result_works is =
         let d = of_operator.does p acts r is (λ e. cc) in
         let here_now = placed PutResult d.table in
@@ -816,9 +816,9 @@ module _ (bytes client : ℕ) (asked : Option HandleCall) (here : OwnerStage)
         })
 
     -- it puts its own result
-    pub operation_finish_works : operation_next p.core ≡ OpAction.Finish
-        → Operates (operation_finishes p s)
-    operation_finish_works is =
+    pub op_finish_works : op_next p.core ≡ OpAction.Finish
+        → Operates (op_finishes p s)
+    op_finish_works is =
         let d = of_operator.does p acts r is (λ e. cc) in
         let now = tied Operating operating among Finish d.table in
         finishes_goes Operating operating among None s.left d.law now
@@ -828,10 +828,10 @@ module _ (bytes client : ℕ) (asked : Option HandleCall) (here : OwnerStage)
         acts js ps ss waker None (sym r.fault_is) tt now)
 
     -- its operation answers
-    pub operation_answer_goes : (answer : HandleAnswer)
-        → is_answer (operation_action_of p) answer ≡ true
+    pub op_answer_goes : (answer : HandleAnswer)
+        → is_answer (op_action_of p) answer ≡ true
         → Goes (owner_by_parts bytes client asked here (Some s)) cut (event (Answered answer))
-    operation_answer_goes answer is =
+    op_answer_goes answer is =
         let q = of_operator.asks p acts answer r is in
         let d = q.does in
         let now = tied Operating operating among AskResult d.table in
@@ -841,7 +841,7 @@ module _ (bytes client : ℕ) (asked : Option HandleCall) (here : OwnerStage)
         (sym (ap (λ a. job_next_after_answer a answer) d.table))
         (results.answered s.result (has_given_up acts) (has_result acts) came (number acts) rs
         (number (Answered answer ∷ acts)) (placed AskResult d.table)))
-        (operation_answers s (bound bytes Operating) began shut over gone took written acts js ps ss
+        (op_answers s (bound bytes Operating) began shut over gone took written acts js ps ss
         answer q.fits d.table now)
 
   -- ---- what any does

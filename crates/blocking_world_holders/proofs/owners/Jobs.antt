@@ -8,22 +8,22 @@ use Rattle.blocking_world_holders.proofs.Types.{ReadAction, ReadAnswer, SeekActi
 use Rattle.blocking_world_holders.proofs.Types.{WriteAction, WriteAnswer, Act, Drained, Finished}
 use Rattle.blocking_world_holders.proofs.Types.{JobClosed, JobParked, Lost, Put, ResultPut}
 use Rattle.blocking_world_holders.proofs.Types.{RoomFree, RoomShut, TakenOut, SessionJob}
-use Rattle.blocking_world_holders.proofs.Words.{item_next, operation_next, room, Closed, Met}
+use Rattle.blocking_world_holders.proofs.Words.{item_next, op_next, room, Closed, Met}
 use Rattle.blocking_world_holders.proofs.Words.{Served, Waiting, hand_in, read_next, seek_next}
 use Rattle.blocking_world_holders.proofs.Words.{write_next, is_taken, piece, waker_in, OperationAs}
-use Rattle.blocking_world_holders.proofs.Words.{OpProgress, Owner, Worked, operate_as, operate_in}
-use Rattle.blocking_world_holders.proofs.Words.{read_as, read_in, seek_as, seek_in, stream_as}
-use Rattle.blocking_world_holders.proofs.Words.{stream_in, worked, worked_by, write_as, write_in}
+use Rattle.blocking_world_holders.proofs.Words.{OpProgress, Owner, Worked, op_as, op_in}
+use Rattle.blocking_world_holders.proofs.Words.{read_as, read_in, seek_as, seek_in, item_as}
+use Rattle.blocking_world_holders.proofs.Words.{item_in, worked, worked_by, write_as, write_in}
 use Rattle.blocking_world_holders.proofs.Words.{OfBytes, OfItems, through, ReadProgress, ReadAs}
 use Rattle.blocking_world_holders.proofs.Words.{SeekProgress, SeekAs, JobAs, Session, Work}
 use Rattle.blocking_world_holders.proofs.Words.{closing_wakes, finish_wakes, fits_in, found_piece}
 use Rattle.blocking_world_holders.proofs.Words.{found_put, found_room, found_send, holds}
-use Rattle.blocking_world_holders.proofs.Words.{operation_works, result_wakes, seek_works}
-use Rattle.blocking_world_holders.proofs.Words.{streamer_closes, streamer_finishes, streamer_works}
-use Rattle.blocking_world_holders.proofs.Words.{work_at_peek, work_at_put, work_at_room}
-use Rattle.blocking_world_holders.proofs.Words.{work_at_send, work_by, work_of_close}
-use Rattle.blocking_world_holders.proofs.Words.{work_of_consume, work_of_finish, writer_closes}
-use Rattle.blocking_world_holders.proofs.Words.{writer_finishes, writer_works, ItemAs, ItemProgress}
+use Rattle.blocking_world_holders.proofs.Words.{op_works, result_wakes, seek_works}
+use Rattle.blocking_world_holders.proofs.Words.{item_closes, item_finishes, item_works}
+use Rattle.blocking_world_holders.proofs.Words.{write_at_peek, read_at_put, read_at_room}
+use Rattle.blocking_world_holders.proofs.Words.{item_at_send, read_works, read_closes}
+use Rattle.blocking_world_holders.proofs.Words.{write_consumes, read_finishes, write_closes}
+use Rattle.blocking_world_holders.proofs.Words.{write_finishes, write_works, ItemAs, ItemProgress}
 use Rattle.blocking_world_holders.proofs.Words.{WriteProgress, WriteAs, write_fault_of}
 use Rattle.blocking_world_holders.proofs.owners.Goods.{through_some}
 use Rattle.blocking_world_holders.proofs.owners.Polls.{moved}
@@ -62,7 +62,7 @@ module _ (p : ReadProgress) (acts : List Act) (s : Session) (r : ReadAs p acts) 
   ReadOn work = ReadAs work.job (work.act ∷ acts)
 
   room_on : read_next p.core ≡ ReadAction.FindRoom → (met : Met ℕ) → found_room s ≡ met
-      → ReadOn (work_at_room met p s)
+      → ReadOn (read_at_room met p s)
   room_on is (Served zero) found =
       absurd (let some = (some_room (room s.pipe) 0 s.pipe.is_owner_open found).1 in omega arith)
   room_on is (Served (suc n)) found =
@@ -77,7 +77,7 @@ module _ (p : ReadProgress) (acts : List Act) (s : Session) (r : ReadAs p acts) 
       (of_reader.does p acts r is (λ e. cc)) refl refl refl r.fault_is
 
   put_on : (count : ℕ) → read_next p.core ≡ ReadAction.Put count → fits_in p.piece s ≡ true
-      → (met : Met (Option (Unit {0}))) → found_put p.piece s ≡ met → ReadOn (work_at_put met p s)
+      → (met : Met (Option (Unit {0}))) → found_put p.piece s ≡ met → ReadOn (read_at_put met p s)
   put_on count is fits Waiting found = absurd
       (no_wait (length p.piece) (room s.pipe) s.pipe.is_owner_open s.pipe.owner_seat fits found)
   put_on count is fits (Served seat) found =
@@ -91,25 +91,25 @@ module _ (p : ReadProgress) (acts : List Act) (s : Session) (r : ReadAs p acts) 
 
   -- what it does next there
   reads_on : (a : ReadAction) → read_next p.core ≡ a → (work : Work ReadProgress)
-      → work_by a p s ≡ Some work → ReadOn work
+      → read_works a p s ≡ Some work → ReadOn work
   reads_on ReadAction.FindRoom is work does =
-      moved ReadOn (work_at_room (found_room s) p s) work does (room_on is (found_room s) refl)
+      moved ReadOn (read_at_room (found_room s) p s) work does (room_on is (found_room s) refl)
   reads_on (ReadAction.Put count) is work does = by_fit (fits_in p.piece s) refl does
     where
       by_fit : (b : Bool) → fits_in p.piece s ≡ b
-          → (if b then Some (work_at_put (found_put p.piece s) p s) else None) ≡ Some work
+          → (if b then Some (read_at_put (found_put p.piece s) p s) else None) ≡ Some work
           → ReadOn work
-      by_fit true fits does = moved ReadOn (work_at_put (found_put p.piece s) p s) work does
+      by_fit true fits does = moved ReadOn (read_at_put (found_put p.piece s) p s) work does
           (put_on count is fits (found_put p.piece s) refl)
       by_fit false fits does = absurd (cc)
   reads_on ReadAction.Close is work does =
       let woke = closing_wakes s in
-      moved ReadOn (work_of_close p s) work does (of_reader.meets p acts
+      moved ReadOn (read_closes p s) work does (of_reader.meets p acts
       ReadAction.Finish woke (ReadAnswer.Closed woke) (JobClosed (waker_in woke))
       (of_reader.does p acts r is (λ e. cc)) refl refl (taken_is woke) r.fault_is)
   reads_on ReadAction.Finish is work does =
       let woke = finish_wakes p.fault s in
-      moved ReadOn (work_of_finish p s) work does (of_reader.meets p acts
+      moved ReadOn (read_finishes p s) work does (of_reader.meets p acts
       ReadAction.Done woke (ReadAnswer.Finished woke) (Finished (waker_in woke))
       (of_reader.does p acts r is (λ e. cc)) refl refl (taken_is woke) r.fault_is)
   reads_on _ is work does = absurd (cc)
@@ -121,7 +121,7 @@ module _ (p : WriteProgress) (acts : List Act) (s : Session) (r : WriteAs p acts
   WriteOn work = WriteAs work.job (work.act ∷ acts)
 
   peek_on : write_next p.core ≡ WriteAction.Peek → (met : Met (List ℕ)) → found_piece s ≡ met
-      → WriteOn (work_at_peek met p s)
+      → WriteOn (write_at_peek met p s)
   peek_on is (Served found) shows =
       let some = some_piece piece s.pipe.items s.pipe.is_owner_open found shows in
       of_writer.meets_piece p acts found r is
@@ -137,29 +137,29 @@ module _ (p : WriteProgress) (acts : List Act) (s : Session) (r : WriteAs p acts
 
   -- what it does next there
   writes_on : (a : WriteAction) → write_next p.core ≡ a → (work : Work WriteProgress)
-      → writer_works a p s ≡ Some work → WriteOn work
+      → write_works a p s ≡ Some work → WriteOn work
   writes_on WriteAction.Peek is work does =
-      moved WriteOn (work_at_peek (found_piece s) p s) work does (peek_on is (found_piece s) refl)
+      moved WriteOn (write_at_peek (found_piece s) p s) work does (peek_on is (found_piece s) refl)
   writes_on (WriteAction.Consume count) is work does = by_hold (holds count s) does
     where
-      by_hold : (b : Bool) → (if b then Some (work_of_consume count p s) else None) ≡ Some work
+      by_hold : (b : Bool) → (if b then Some (write_consumes count p s) else None) ≡ Some work
           → WriteOn work
       by_hold true does =
           let woke = closing_wakes s in
-          moved WriteOn (work_of_consume count p s)
+          moved WriteOn (write_consumes count p s)
           work does (of_writer.meets p acts WriteAction.Peek woke (WriteAnswer.Consumed woke)
           (TakenOut count (waker_in woke)) (of_writer.does p acts r is (λ e. cc)) refl refl tt
           (taken_is woke) (of_writer.kept p acts r))
       by_hold false does = absurd (cc)
   writes_on WriteAction.Close is work does =
       let woke = closing_wakes s in
-      moved WriteOn (writer_closes p s) work does (of_writer.meets p acts
+      moved WriteOn (write_closes p s) work does (of_writer.meets p acts
       WriteAction.Finish woke (WriteAnswer.Closed woke) (JobClosed (waker_in woke))
       (of_writer.does p acts r is (λ e. cc)) refl refl tt (taken_is woke)
       (of_writer.kept p acts r))
   writes_on WriteAction.Finish is work does =
       let woke = finish_wakes (write_fault_of p.core) s in
-      moved WriteOn (writer_finishes p s) work does (of_writer.meets p acts
+      moved WriteOn (write_finishes p s) work does (of_writer.meets p acts
       WriteAction.Done woke (WriteAnswer.Finished woke) (Finished (waker_in woke))
       (of_writer.does p acts r is (λ e. cc)) refl refl tt (taken_is woke)
       (of_writer.kept p acts r))
@@ -168,11 +168,11 @@ module _ (p : WriteProgress) (acts : List Act) (s : Session) (r : WriteAs p acts
 -- ---- a job that runs an iterator, at its session
 
 module _ (p : ItemProgress) (acts : List Act) (s : Session) (r : ItemAs p acts) where
-  abbrev StreamOn : Work ItemProgress → Type 0
-  StreamOn work = ItemAs work.job (work.act ∷ acts)
+  abbrev ItemOn : Work ItemProgress → Type 0
+  ItemOn work = ItemAs work.job (work.act ∷ acts)
 
   send_on : item_next p.core ≡ ItemAction.Send → (met : Met (Option (Unit {0})))
-      → found_send s ≡ met → StreamOn (work_at_send met p s)
+      → found_send s ≡ met → ItemOn (item_at_send met p s)
   send_on is (Served seat) found =
       let woke = is_some seat in
       of_streamer.meets p acts ItemAction.Next woke (ItemAnswer.Sent woke) (Put 1 (waker_in woke))
@@ -186,21 +186,21 @@ module _ (p : ItemProgress) (acts : List Act) (s : Session) (r : ItemAs p acts) 
       (of_streamer.does p acts r is (λ e. cc)) refl refl refl r.fault_is
 
   -- what it does next there
-  streams_on : (a : ItemAction) → item_next p.core ≡ a → (work : Work ItemProgress)
-      → streamer_works a p s ≡ Some work → StreamOn work
-  streams_on ItemAction.Send is work does =
-      moved StreamOn (work_at_send (found_send s) p s) work does (send_on is (found_send s) refl)
-  streams_on ItemAction.Close is work does =
+  items_on : (a : ItemAction) → item_next p.core ≡ a → (work : Work ItemProgress)
+      → item_works a p s ≡ Some work → ItemOn work
+  items_on ItemAction.Send is work does =
+      moved ItemOn (item_at_send (found_send s) p s) work does (send_on is (found_send s) refl)
+  items_on ItemAction.Close is work does =
       let woke = closing_wakes s in
-      moved StreamOn (streamer_closes p s) work does (of_streamer.meets p acts
+      moved ItemOn (item_closes p s) work does (of_streamer.meets p acts
       ItemAction.Finish woke (ItemAnswer.Closed woke) (JobClosed (waker_in woke))
       (of_streamer.does p acts r is (λ e. cc)) refl refl (taken_is woke) r.fault_is)
-  streams_on ItemAction.Finish is work does =
+  items_on ItemAction.Finish is work does =
       let woke = finish_wakes None s in
-      moved StreamOn (streamer_finishes p s) work does (of_streamer.meets p acts
+      moved ItemOn (item_finishes p s) work does (of_streamer.meets p acts
       ItemAction.Done woke (ItemAnswer.Finished woke) (Finished (waker_in woke))
       (of_streamer.does p acts r is (λ e. cc)) refl refl (taken_is woke) r.fault_is)
-  streams_on _ is work does = absurd (cc)
+  items_on _ is work does = absurd (cc)
 
 -- ---- a job that seeks, at its session
 
@@ -220,7 +220,7 @@ seeks_on p acts s r _ is work does = absurd (cc)
 
 -- what it does next there
 operates_on : (p : OpProgress) (acts : List Act) (s : Session) → OperationAs p acts → (a : OpAction)
-    → operation_next p.core ≡ a → (work : Work OpProgress) → operation_works a p s ≡ Some work
+    → op_next p.core ≡ a → (work : Work OpProgress) → op_works a p s ≡ Some work
     → OperationAs work.job (work.act ∷ acts)
 operates_on p acts s r OpAction.PutResult is work does =
     let woke = result_wakes p.number s in
@@ -255,25 +255,25 @@ read_goes : (p : ReadProgress) (acts : List Act) (last : Option Session) (owner 
     → (done : Worked) → read_in a last p owner ≡ Some done → IsAt acts done
 read_goes p acts None owner r a is done does = absurd (cc)
 read_goes p acts (Some s) owner r a is done does = at_work ReadProgress SessionJob.Read
-    acts owner (through OfBytes s.goods (work_by a p s)) (λ work e. reads_on p acts s r a is work
-    (through_some OfBytes s.goods (work_by a p s) work e).1) done does
+    acts owner (through OfBytes s.goods (read_works a p s)) (λ work e. reads_on p acts s r a is work
+    (through_some OfBytes s.goods (read_works a p s) work e).1) done does
 
 write_goes : (p : WriteProgress) (acts : List Act) (last : Option Session) (owner : Owner)
     → WriteAs p acts → (a : WriteAction) → write_next p.core ≡ a
     → (done : Worked) → write_in a last p owner ≡ Some done → IsAt acts done
 write_goes p acts None owner r a is done does = absurd (cc)
 write_goes p acts (Some s) owner r a is done does = at_work WriteProgress SessionJob.Write acts
-    owner (through OfBytes s.goods (writer_works a p s)) (λ work e. writes_on p acts s r a is work
-    (through_some OfBytes s.goods (writer_works a p s) work e).1) done does
+    owner (through OfBytes s.goods (write_works a p s)) (λ work e. writes_on p acts s r a is work
+    (through_some OfBytes s.goods (write_works a p s) work e).1) done does
 
-stream_goes : (p : ItemProgress) (acts : List Act) (last : Option Session) (owner : Owner)
+item_goes : (p : ItemProgress) (acts : List Act) (last : Option Session) (owner : Owner)
     → ItemAs p acts → (a : ItemAction) → item_next p.core ≡ a
-    → (done : Worked) → stream_in a last p owner ≡ Some done → IsAt acts done
-stream_goes p acts None owner r a is done does = absurd (cc)
-stream_goes p acts (Some s) owner r a is done does =
+    → (done : Worked) → item_in a last p owner ≡ Some done → IsAt acts done
+item_goes p acts None owner r a is done does = absurd (cc)
+item_goes p acts (Some s) owner r a is done does =
     at_work ItemProgress SessionJob.Items acts owner
-    (through OfItems s.goods (streamer_works a p s)) (λ work e. streams_on p acts s r a is work
-    (through_some OfItems s.goods (streamer_works a p s) work e).1) done does
+    (through OfItems s.goods (item_works a p s)) (λ work e. items_on p acts s r a is work
+    (through_some OfItems s.goods (item_works a p s) work e).1) done does
 
 seek_goes : (p : SeekProgress) (acts : List Act) (last : Option Session) (owner : Owner)
     → SeekAs p acts → (a : SeekAction) → seek_next p.core ≡ a
@@ -282,12 +282,12 @@ seek_goes p acts None owner r a is done does = absurd (cc)
 seek_goes p acts (Some s) owner r a is done does = at_work SeekProgress SessionJob.Seek acts owner
     (seek_works a p s) (λ work e. seeks_on p acts s r a is work e) done does
 
-operate_goes : (p : OpProgress) (acts : List Act) (last : Option Session) (owner : Owner)
-    → OperationAs p acts → (a : OpAction) → operation_next p.core ≡ a
-    → (done : Worked) → operate_in a last p owner ≡ Some done → IsAt acts done
-operate_goes p acts None owner r a is done does = absurd (cc)
-operate_goes p acts (Some s) owner r a is done does = at_work OpProgress SessionJob.Operate acts
-    owner (operation_works a p s) (λ work e. operates_on p acts s r a is work e) done does
+op_goes : (p : OpProgress) (acts : List Act) (last : Option Session) (owner : Owner)
+    → OperationAs p acts → (a : OpAction) → op_next p.core ≡ a
+    → (done : Worked) → op_in a last p owner ≡ Some done → IsAt acts done
+op_goes p acts None owner r a is done does = absurd (cc)
+op_goes p acts (Some s) owner r a is done does = at_work OpProgress SessionJob.Operate acts
+    owner (op_works a p s) (λ work e. operates_on p acts s r a is work e) done does
 
 -- how far it is after what it does next by itself
 pub worked_on : (p : SessionJob) (acts : List Act) (owner : Owner) (done : Worked) → JobAs p acts
@@ -304,17 +304,17 @@ worked_on (SessionJob.Write p) acts owner done r does = by (write_next p.core) r
     by a is does = write_goes p acts owner.session owner r a is done does
 worked_on (SessionJob.Items p) acts owner done r does = by (item_next p.core) refl does
   where
-    by : (a : ItemAction) → item_next p.core ≡ a → stream_as a p owner ≡ Some done → IsAt acts done
+    by : (a : ItemAction) → item_next p.core ≡ a → item_as a p owner ≡ Some done → IsAt acts done
     by ItemAction.Deliver is does = moved (IsAt acts) _ done does (of_streamer.wakes p acts r is)
-    by a is does = stream_goes p acts owner.session owner r a is done does
+    by a is does = item_goes p acts owner.session owner r a is done does
 worked_on (SessionJob.Seek p) acts owner done r does = by (seek_next p.core) refl does
   where
     by : (a : SeekAction) → seek_next p.core ≡ a → seek_as a p owner ≡ Some done → IsAt acts done
     by SeekAction.Deliver is does = moved (IsAt acts) _ done does (of_seeker.wakes p acts r is)
     by a is does = seek_goes p acts owner.session owner r a is done does
-worked_on (SessionJob.Operate p) acts owner done r does = by (operation_next p.core) refl does
+worked_on (SessionJob.Operate p) acts owner done r does = by (op_next p.core) refl does
   where
-    by : (a : OpAction) → operation_next p.core ≡ a → operate_as a p owner ≡ Some done
+    by : (a : OpAction) → op_next p.core ≡ a → op_as a p owner ≡ Some done
         → IsAt acts done
     by OpAction.Deliver is does = moved (IsAt acts) _ done does (of_operator.wakes p acts r is)
-    by a is does = operate_goes p acts owner.session owner r a is done does
+    by a is does = op_goes p acts owner.session owner r a is done does

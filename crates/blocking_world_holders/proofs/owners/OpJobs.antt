@@ -3,20 +3,20 @@ use Rattle.std.proofs.Common.{arith, ◌≡◌, ℕ, List, ◌∷◌, Bool, true
 use Rattle.std.proofs.Common.{subst}
 use Rattle.blocking_world_holders.proofs.Types.{OpAction, OpAnswer, Act, Answered, HolderWoken}
 use Rattle.blocking_world_holders.proofs.Types.{HandleAnswer, Number}
-use Rattle.blocking_world_holders.proofs.Words.{Machine, machine, operation_after, operation_by}
-use Rattle.blocking_world_holders.proofs.Words.{operation_in, operation_next, Operating, fault}
+use Rattle.blocking_world_holders.proofs.Words.{Machine, machine, op_after, op_by}
+use Rattle.blocking_world_holders.proofs.Words.{core_op_in as op_in, op_next, Operating, fault}
 use Rattle.blocking_world_holders.proofs.Words.{is_answer, next_but_wake, number, takes_waker}
 use Rattle.blocking_world_holders.proofs.Words.{OperationAs, OpProgress as Progress}
-use Rattle.blocking_world_holders.proofs.Words.{operation_action_as as action_as}
-use Rattle.blocking_world_holders.proofs.Words.{operation_action_of as action_of}
-use Rattle.blocking_world_holders.proofs.Words.{operation_progress_after_answer as progress_after_answer}
-use Rattle.blocking_world_holders.proofs.Words.{operation_progress_with as progress_with}
+use Rattle.blocking_world_holders.proofs.Words.{op_action_as as action_as}
+use Rattle.blocking_world_holders.proofs.Words.{op_action_of as action_of}
+use Rattle.blocking_world_holders.proofs.Words.{op_progress_after_answer as progress_after_answer}
+use Rattle.blocking_world_holders.proofs.Words.{op_progress_with as progress_with}
 use Rattle.blocking_world_holders.proofs.owners.Machines.{Does, Asks, called, next_on, fault_on}
 use Rattle.blocking_world_holders.proofs.owners.Machines as machines
 
 -- what it does next, but for calling a waker
 pub does : (p : Progress) (acts : List Act) → OperationAs p acts → {now : OpAction}
-    → operation_next p.core ≡ now → (now ≡ OpAction.Deliver → ⊥)
+    → op_next p.core ≡ now → (now ≡ OpAction.Deliver → ⊥)
     → Does action_as Operating acts p.core now
 does p acts r is other =
     machines.does action_as OpAction.Deliver refl Operating acts p.core r.next r.waking is other
@@ -26,23 +26,23 @@ does p acts r is other =
 -- The job was answered so, and has this number now: it goes on by its table.
 pub meets : (p : Progress) {n : ℕ} {now : OpAction} (acts : List Act) (next : OpAction)
     (woke : Bool) (answer : OpAnswer) (act : Act) → Does action_as Operating acts p.core now
-    → operation_by now answer ≡ machine next woke
+    → op_by now answer ≡ machine next woke
     → action_as next ≡ next_but_wake Operating (act ∷ acts) → woke ≡ takes_waker act
     → fault Operating (act ∷ acts) ≡ None → n ≡ number (act ∷ acts)
-    → OperationAs (record { core = operation_after p.core answer; number = n }) (act ∷ acts)
+    → OperationAs (record { core = op_after p.core answer; number = n }) (act ∷ acts)
 meets p {n} acts next woke answer act d goes table took sound counted =
     subst (λ (core : Machine OpAction).
     OperationAs (record { core = core; number = n }) (act ∷ acts))
-    (sym (ap (λ core. operation_after core answer) d.core_is ∙ goes))
+    (sym (ap (λ core. op_after core answer) d.core_is ∙ goes))
     (record { next = table; waking = took; fault_is = sound; number_is = counted })
 
 -- the waker that it took is called
-pub wakes : (p : Progress) (acts : List Act) → OperationAs p acts → operation_next p.core
+pub wakes : (p : Progress) (acts : List Act) → OperationAs p acts → op_next p.core
     ≡ OpAction.Deliver → OperationAs (progress_with p OpAnswer.Delivered) (HolderWoken ∷ acts)
 wakes p acts r is =
     subst (λ (core : Machine OpAction). OperationAs (record p { core = core }) (HolderWoken ∷ acts))
     (sym (called OpAction.Deliver p.core.next p.core.is_waking
-    (λ b a. operation_in b a OpAnswer.Delivered) (λ a. machine a false) (λ a. refl) refl is))
+    (λ b a. op_in b a OpAnswer.Delivered) (λ a. machine a false) (λ a. refl) refl is))
     (record { next = r.next; waking = refl; fault_is = r.fault_is; number_is = r.number_is })
 
 -- ---- its operation answers
@@ -58,7 +58,7 @@ pub asks : (p : Progress) (acts : List Act) (answer : HandleAnswer) → Operatio
     → Asks action_as Operating acts p.core answer OpAction.Call
 asks p acts answer r is =
     machines.asks action_as OpAction.Deliver refl Operating acts p.core r.next r.waking
-    answer (runs (operation_next p.core) answer is) is
+    answer (runs (op_next p.core) answer is) is
 
 -- The operation answered so, and the job goes on by its table.
 pub answers : (p : Progress) (acts : List Act) (answer : HandleAnswer) → OperationAs p acts

@@ -27,11 +27,11 @@ module _ (s : Session) (capacity : ℕ) (last : Option SeenSession) (shut back d
   }
 
   -- its operation gives a number
-  pub operation_answers : (answer : HandleAnswer) → is_answer AskResult answer ≡ true
+  pub op_answers : (answer : HandleAnswer) → is_answer AskResult answer ≡ true
       → next_but_wake Operating acts ≡ AskResult
       → At s Operating capacity last shut back dropped took accepted acts js ps ss AskResult
       → Tied s (Answered answer ∷ acts)
-  operation_answers (Number n) fits e t =
+  op_answers (Number n) fits e t =
       let on = going s.slot.content (has_finished acts) (has_given_up acts) back dropped
       (fault Operating acts) t.result in
       tied_at s Operating capacity last shut back dropped took accepted (Answered (Number n) ∷ acts)
@@ -48,7 +48,7 @@ module _ (s : Session) (capacity : ℕ) (last : Option SeenSession) (shut back d
         seats =
             unseated s Operating (has_given_up acts) (has_given_up acts) js ps ss on.stays t.seats;
       })
-  operation_answers _ fits e t = absurd (cc)
+  op_answers _ fits e t = absurd (cc)
 
   -- it puts the result
   pub result_puts : (waker : HolderWaker) (result : Slot ℕ (Unit {0}))

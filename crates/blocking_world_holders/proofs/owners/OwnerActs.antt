@@ -36,7 +36,7 @@ use Rattle.blocking_world_holders.proofs.Words.{is_end_open, is_piped_kind, kind
 use Rattle.blocking_world_holders.proofs.Words.{state_as, wrote_by, Did, Owner, awaited_as}
 use Rattle.blocking_world_holders.proofs.Words.{back_answer, capacity_of, close_did, did, did_by}
 use Rattle.blocking_world_holders.proofs.Words.{did_in, drain_did, fill_did, fill_did_in, find_did}
-use Rattle.blocking_world_holders.proofs.Words.{goes_on, item_in, look_did, looked_as, note_at}
+use Rattle.blocking_world_holders.proofs.Words.{goes_on, last_item, look_did, looked_as, note_at}
 use Rattle.blocking_world_holders.proofs.Words.{poll_call_of, receive_did, reply_as, reply_did}
 use Rattle.blocking_world_holders.proofs.Words.{OfBytes, OfItems, Session, drained, filled, reach}
 use Rattle.blocking_world_holders.proofs.Words.{received, serial_of, session_after_close}
@@ -980,9 +980,9 @@ own_by : (bytes client : ℕ) (asked : Option HandleCall) (p : OwnerMachine ℕ)
     → did_in next p last (owner_by_parts bytes client asked (OwnerStage.Polls p) last) ≡ Some done
     → Goes done.owner cut (by_owner h done.act first growth)
 own_by bytes client asked p h first growth cut done (OwnerAction.Reply r) last is t does =
-    replies (reply_as (item_in last) r) refl does
+    replies (reply_as (last_item last) r) refl does
   where
-    replies : (told : Option Told) → reply_as (item_in last) r ≡ told
+    replies : (told : Option Told) → reply_as (last_item last) r ≡ told
         → reply_did told p (owner_by_parts bytes client asked (OwnerStage.Polls p) last) ≡ Some done
         → Goes done.owner cut (by_owner h done.act first growth)
     replies (Some said) same does =

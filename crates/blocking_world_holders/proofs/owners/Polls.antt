@@ -13,7 +13,7 @@ use Rattle.blocking_world_holders.proofs.Words.{OwnerMayAct, deliver_first, next
 use Rattle.blocking_world_holders.proofs.Words.{owner_next_but_wake, is_some_worker, own, SeenState}
 use Rattle.blocking_world_holders.proofs.Words.{FitsNext, GoneBy, IsOperating, OperatesBy, OwnerAs}
 use Rattle.blocking_world_holders.proofs.Words.{PollAs, StageBy, action_as, called_at, seat_of}
-use Rattle.blocking_world_holders.proofs.Words.{Owner, capacity_of, goes_on, item_in, note_at}
+use Rattle.blocking_world_holders.proofs.Words.{Owner, capacity_of, goes_on, last_item, note_at}
 use Rattle.blocking_world_holders.proofs.Words.{Session, serial_of}
 use Rattle.blocking_world_holders.proofs.Clashes.{nothing}
 use Rattle.blocking_core.specs.OwnerCalls as machine
@@ -78,10 +78,10 @@ still_called q taken asked = grind arith
 pub lawful : (bytes client : ℕ) (asked : Option HandleCall) (p : OwnerMachine ℕ) (cut : List Event)
     (last : Option Session) (next : OwnerAction ℕ)
     → (t : OwnerAs (owner_by_parts bytes client asked (OwnerStage.Polls p) last) cut)
-    → p.next ≡ next → next_of_owner cut ≡ action_as (item_in last) t.stage.0.call next
+    → p.next ≡ next → next_of_owner cut ≡ action_as (last_item last) t.stage.0.call next
 lawful bytes client asked p cut last next t is =
     next_with cut ∙ ap (λ n. deliver_first n (owner_next_but_wake cut (own cut))) t.stage.2
-    ∙ t.stage.0.next_is ∙ ap (action_as (item_in last) t.stage.0.call) is
+    ∙ t.stage.0.next_is ∙ ap (action_as (last_item last) t.stage.0.call) is
 
 pub fits_at : (bytes client : ℕ) (asked : Option HandleCall) (p : OwnerMachine ℕ) (cut : List Event)
     (last : Option Session) (next : OwnerAction ℕ)

@@ -27,7 +27,7 @@ use Rattle.blocking_world_holders.proofs.Words.{BeginsBy, EndsAs, FitsNext, IsOp
 use Rattle.blocking_world_holders.proofs.Words.{LooksFrom, OwnerAs, PlaceBy, SessionAs, SlotAs}
 use Rattle.blocking_world_holders.proofs.Words.{action_as, has_found, is_end_open, kind_as}
 use Rattle.blocking_world_holders.proofs.Words.{newest_note, state_as, is_for_result, is_pending}
-use Rattle.blocking_world_holders.proofs.Words.{item_in, may_call_at, poll_call_of, Session}
+use Rattle.blocking_world_holders.proofs.Words.{last_item, may_call_at, poll_call_of, Session}
 use Rattle.blocking_world_holders.proofs.Words.{goods_of, new_session}
 use Rattle.blocking_world_holders.proofs.Clashes.{never, nothing}
 use Rattle.blocking_core.specs.OwnerCalls as machine
@@ -323,7 +323,7 @@ pub ask_goes : (bytes client : ℕ) (asked : Option HandleCall) (here : State) (
     (OwnerStage.Polls (new_poll (poll_call_of (is_for_result end) call) here)) last) cut
     (by_owner h (Asked call) first growth)
 ask_goes bytes client asked here end last h first growth cut call may still pends t =
-    let a = asks_so (item_in last) call end asked here (own cut) may pends
+    let a = asks_so (last_item last) call end asked here (own cut) may pends
     (is_there last (bound bytes) cut here t.last t.stage.0) t.stage.0 t.operates in
     let inner : (not (seen_was_asked_inner (own cut)) || seen_is_into_inner (Some call)) ≡ true =
     ap (λ b. not b || seen_is_into_inner (Some call)) t.gone.2 ∙ still in
@@ -449,7 +449,7 @@ pub refuse_goes : (bytes client : ℕ) (asked : Option HandleCall) (p : OwnerMac
 refuse_goes bytes client asked p last h first growth cut reason is t =
     let c = t.stage.0.call in
     let q : OwnerMachine ℕ = record p { next = OwnerAction.Reply (refused_reply c reason) } in
-    let r = refused t.stage.0.begun (item_in last) c q reason (came_back cut)
+    let r = refused t.stage.0.begun (last_item last) c q reason (came_back cut)
     (fits_at bytes client asked p cut last OwnerAction.Begin t is).0 in
     let same : owner_after p (OwnerAnswer.Refused reason) ≡ q =
     turned p OwnerAction.Begin (OwnerAnswer.Refused reason) t.stage.1 is

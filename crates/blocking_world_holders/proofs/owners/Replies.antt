@@ -11,7 +11,7 @@ use Rattle.blocking_world_holders.proofs.Words.{seen_is_owner_gone, seen_is_shut
 use Rattle.blocking_world_holders.proofs.Words.{seen_state, seen_state_by, by_owner, EndAs}
 use Rattle.blocking_world_holders.proofs.Words.{FitsNext, IsGoneBy, OperatesBy, OwnerAs, StageBy}
 use Rattle.blocking_world_holders.proofs.Words.{called_at, has_found, say, state_as, drop_did}
-use Rattle.blocking_world_holders.proofs.Words.{is_gone, is_no_more, item_in, note_at, reply_as}
+use Rattle.blocking_world_holders.proofs.Words.{is_gone, is_no_more, last_item, note_at, reply_as}
 use Rattle.blocking_world_holders.proofs.Words.{stage_after_reply, Session}
 use Rattle.blocking_world_holders.proofs.Clashes.{never, nothing}
 use Rattle.blocking_world_laws.specs.OwnerTable as law
@@ -61,7 +61,7 @@ after_reply x c r _ closed last shut st same away e = e
 pub reply_goes :
     (bytes client : ℕ) (asked : Option HandleCall) (p : OwnerMachine ℕ) (last : Option Session)
     (h first : ℕ) (growth : Growth) (cut : List Event) (r : Reply ℕ) (said : Told)
-    → p.next ≡ OwnerAction.Reply r → reply_as (item_in last) r ≡ Some said
+    → p.next ≡ OwnerAction.Reply r → reply_as (last_item last) r ≡ Some said
     → OwnerAs (owner_by_parts bytes client asked (OwnerStage.Polls p) last) cut
     → Goes (owner_by_parts bytes client asked (stage_after_reply (seen_is_into_inner asked) p.state)
     last) cut (by_owner h (Replied said) first growth)
@@ -75,7 +75,7 @@ reply_goes bytes client asked p last h first growth cut r said is same t =
     -- asked for for good
     after : (here : OwnerStage) → called_at here asked ≡ None → note_at here ≡ None
         → is_gone here ≡ false → is_no_more here ≡ seen_is_into_inner asked
-        → StageBy here (item_in last) (seen_call (own cut)) (seen_state (Replied said ∷ own cut))
+        → StageBy here (last_item last) (seen_call (own cut)) (seen_state (Replied said ∷ own cut))
         law.Rest false (came_back cut) None
         → OperatesBy here false (is_operation asked) (seen_has_begun (own cut))
         (has_found (own cut))
@@ -85,7 +85,7 @@ reply_goes bytes client asked p last h first growth cut r said is same t =
       acts = subst (λ n. Polls cut n (Replied said)) (sym
           (lawful bytes client asked p cut last (OwnerAction.Reply r) t is ∙ ap say same)) refl;
       ends = subst (λ c. IsTrueEnd c said (came_back cut)) (sym t.stage.0.asked_is)
-          (end_is (item_in last) t.stage.0.call r (came_back cut) said same fits.1);
+          (end_is (last_item last) t.stage.0.call r (came_back cut) said same fits.1);
       tie = record {
         made = t.made;
         gone = (
@@ -119,7 +119,7 @@ reply_goes bytes client asked p last h first growth cut r said is same t =
         after (OwnerStage.Rests p.state PollEnd.Replied) refl refl refl (sym not_inner) (
           ap (λ c. seen_state_by (seen_ends_close said c || seen_is_closed (own cut))
               (seen_session (own cut)) (seen_is_shut (own cut))) t.stage.0.asked_is
-              ∙ after_reply (item_in last) t.stage.0.call r said (seen_is_closed (own cut))
+              ∙ after_reply (last_item last) t.stage.0.call r said (seen_is_closed (own cut))
               (seen_session (own cut)) (seen_is_shut (own cut)) p.state same fits.2 t.stage.0.at_is,
           refl,
           refl,

@@ -7,7 +7,7 @@ use Rattle.blocking_world_holders.proofs.Types.{ItemAction, OpAction, ReadAction
 use Rattle.blocking_world_holders.proofs.Types.{WriteAction, OwnerAction, Act, Answered, GaveUp}
 use Rattle.blocking_world_holders.proofs.Types.{HolderWoken, Event, Told, HandleAnswer, HandleCall}
 use Rattle.blocking_world_holders.proofs.Types.{SessionJob, OwnerNext, OwnerStage}
-use Rattle.blocking_world_holders.proofs.Words.{item_next, operation_next, OwnerMachine, read_next}
+use Rattle.blocking_world_holders.proofs.Words.{item_next, op_next, OwnerMachine, read_next}
 use Rattle.blocking_world_holders.proofs.Words.{seek_next, write_next, Growth, is_in, came_back}
 use Rattle.blocking_world_holders.proofs.Words.{JobAction, Kind, Operating, Reading, Seeking}
 use Rattle.blocking_world_holders.proofs.Words.{Streaming, WakeHolder, Writing, fault, is_answer}
@@ -18,7 +18,7 @@ use Rattle.blocking_world_holders.proofs.Words.{kind_in, waker_in, acts_of, own,
 use Rattle.blocking_world_holders.proofs.Words.{is_again, seen_is_dropped, seen_is_into_inner}
 use Rattle.blocking_world_holders.proofs.Words.{is_operation, seen_is_shut, jobs_of, kind_of_job}
 use Rattle.blocking_world_holders.proofs.Words.{seen_last_session, seen_session, seen_state}
-use Rattle.blocking_world_holders.proofs.Words.{OperationAs, OpProgress, operation_action_as, Acts}
+use Rattle.blocking_world_holders.proofs.Words.{OperationAs, OpProgress, op_action_as, Acts}
 use Rattle.blocking_world_holders.proofs.Words.{Begins, CallsWaker, Delivers, GivesUp, IsAnswered}
 use Rattle.blocking_world_holders.proofs.Words.{IsAsked, IsDropped, IsRefused, MayTake, OwnerStep}
 use Rattle.blocking_world_holders.proofs.Words.{DoesWork, act_in, act_of, act_of_work, by_its_job}
@@ -27,18 +27,18 @@ use Rattle.blocking_world_holders.proofs.Words.{owner_after_step as owner_after,
 use Rattle.blocking_world_holders.proofs.Words.{owner_in_step as owner_in, LastAs, OwnerAs, PlaceBy}
 use Rattle.blocking_world_holders.proofs.Words.{PlaceIn, SessionAs, StageBy, has_found, newest_note}
 use Rattle.blocking_world_holders.proofs.Words.{Did, Owner, Worked, capacity_of, did}
-use Rattle.blocking_world_holders.proofs.Words.{giving_up_wakes, is_gone, is_pending, item_in}
+use Rattle.blocking_world_holders.proofs.Words.{giving_up_wakes, is_gone, is_pending, last_item}
 use Rattle.blocking_world_holders.proofs.Words.{may_call_at, next_at, next_by, next_to_say}
-use Rattle.blocking_world_holders.proofs.Words.{operate_as, operate_in, read_as, read_in, reply_as}
-use Rattle.blocking_world_holders.proofs.Words.{seek_as, seek_in, stream_as, stream_in, without_job}
+use Rattle.blocking_world_holders.proofs.Words.{op_as, op_in, read_as, read_in, reply_as}
+use Rattle.blocking_world_holders.proofs.Words.{seek_as, seek_in, item_as, item_in, without_job}
 use Rattle.blocking_world_holders.proofs.Words.{worked, worked_by, write_as, write_in, OfBytes}
 use Rattle.blocking_world_holders.proofs.Words.{OfItems, through, ReadProgress, ReadAs}
 use Rattle.blocking_world_holders.proofs.Words.{read_action_as, SeekProgress, SeekAs}
 use Rattle.blocking_world_holders.proofs.Words.{seek_action_as, JobAs, action_of, kind_of, Session}
 use Rattle.blocking_world_holders.proofs.Words.{Work, fits_in, found_piece, found_put, found_room}
-use Rattle.blocking_world_holders.proofs.Words.{found_send, holds, operation_works, seek_works}
-use Rattle.blocking_world_holders.proofs.Words.{streamer_works, work_at_put, work_by}
-use Rattle.blocking_world_holders.proofs.Words.{work_of_consume, writer_works, ItemAs, ItemProgress}
+use Rattle.blocking_world_holders.proofs.Words.{found_send, holds, op_works, seek_works}
+use Rattle.blocking_world_holders.proofs.Words.{item_works, read_at_put, read_works}
+use Rattle.blocking_world_holders.proofs.Words.{write_consumes, write_works, ItemAs, ItemProgress}
 use Rattle.blocking_world_holders.proofs.Words.{item_action_as, WriteProgress, WriteAs}
 use Rattle.blocking_world_holders.proofs.Words.{write_action_as}
 use Rattle.blocking_world_laws.specs.OwnerTable as law
@@ -48,13 +48,13 @@ use Rattle.blocking_world_holders.proofs.owners.Cuts.{its_kind, kind_is, next_st
 use Rattle.blocking_world_holders.proofs.owners.JobActs.{WorksOn, room_works, put_works}
 use Rattle.blocking_world_holders.proofs.owners.JobActs.{close_works, finish_works, answer_goes}
 use Rattle.blocking_world_holders.proofs.owners.JobActs.{give_up_goes, peek_works, consume_works}
-use Rattle.blocking_world_holders.proofs.owners.JobActs.{writer_close_works, writer_finish_works}
-use Rattle.blocking_world_holders.proofs.owners.JobActs.{writer_answer_goes, item_answer_goes}
-use Rattle.blocking_world_holders.proofs.owners.JobActs.{send_works, streamer_close_works}
-use Rattle.blocking_world_holders.proofs.owners.JobActs.{streamer_finish_works, seek_finish_works}
+use Rattle.blocking_world_holders.proofs.owners.JobActs.{write_close_works, write_finish_works}
+use Rattle.blocking_world_holders.proofs.owners.JobActs.{write_answer_goes, item_answer_goes}
+use Rattle.blocking_world_holders.proofs.owners.JobActs.{send_works, item_close_works}
+use Rattle.blocking_world_holders.proofs.owners.JobActs.{item_finish_works, seek_finish_works}
 use Rattle.blocking_world_holders.proofs.owners.JobActs.{seek_answer_goes, result_works}
-use Rattle.blocking_world_holders.proofs.owners.JobActs.{operation_finish_works}
-use Rattle.blocking_world_holders.proofs.owners.JobActs.{operation_answer_goes}
+use Rattle.blocking_world_holders.proofs.owners.JobActs.{op_finish_works}
+use Rattle.blocking_world_holders.proofs.owners.JobActs.{op_answer_goes}
 use Rattle.blocking_world_holders.proofs.owners.Asked.{both_true}
 use Rattle.blocking_world_holders.proofs.owners.Polls.{Goes, owner_by_parts, bound, value_of, doing}
 use Rattle.blocking_world_holders.proofs.owners.OwnerActs.{own_goes}
@@ -131,7 +131,7 @@ module _ (bytes client : ℕ) (asked : Option HandleCall) (here : OwnerStage)
       polled = t.polled;
       bytes = t.bytes;
       stage =
-          subst (λ next. StageBy here (item_in last) (seen_call (own cut)) (seen_state (own cut))
+          subst (λ next. StageBy here (last_item last) (seen_call (own cut)) (seen_state (own cut))
           next (law.is_at_end (own cut)) (came_back cut) (newest_note (own cut)))
           (sym (next_stays (woken ∷ cut) cut (own cut) (λ back k m.
           (same_of (fault k) (λ l. refl) m, same_of number (λ l. refl) m)))) t.stage;
@@ -256,95 +256,95 @@ module _ (bytes client : ℕ) (asked : Option HandleCall) (here : OwnerStage) (h
       subst (WorksOn bytes client asked here s h v first growth cut t J) (ap (value_of work) e) goes
 
   -- a job that reads, at the session
-  reader_at : (s : Session) (t : OwnerAs (owner_by_parts bytes client asked here (Some s)) cut)
+  read_at : (s : Session) (t : OwnerAs (owner_by_parts bytes client asked here (Some s)) cut)
       (p : ReadProgress) (r : ReadAs p (acts_of s.number.serial cut))
       → its_kind s (bound bytes) cut t.last ≡ Reading
       → is_in s.number.serial (jobs_of (own cut)) ≡ true → (a : ReadAction) → read_next p.core ≡ a
-      → (work : Work ReadProgress) → work_by a p s ≡ Some work
+      → (work : Work ReadProgress) → read_works a p s ≡ Some work
       → WorksOn bytes client asked here s h v first growth cut t ReadProgress work
-  reader_at s t p r of among ReadAction.FindRoom is work does =
+  read_at s t p r of among ReadAction.FindRoom is work does =
       as_done s t ReadProgress (room_works bytes client asked here s h v first growth cut t p r of
       among is (found_room s) refl) work does
-  reader_at s t p r of among (ReadAction.Put count) is work does =
+  read_at s t p r of among (ReadAction.Put count) is work does =
       by_fit (fits_in p.piece s) refl does
     where
       by_fit : (b : Bool) → fits_in p.piece s ≡ b
-          → (if b then Some (work_at_put (found_put p.piece s) p s) else None) ≡ Some work
+          → (if b then Some (read_at_put (found_put p.piece s) p s) else None) ≡ Some work
           → WorksOn bytes client asked here s h v first growth cut t ReadProgress work
       by_fit true fits does = as_done s t ReadProgress (put_works bytes client asked here s h v
           first growth cut t p r of among count is fits (found_put p.piece s) refl) work does
       by_fit false fits does = absurd (nothing does)
-  reader_at s t p r of among ReadAction.Close is work does = as_done s t ReadProgress
+  read_at s t p r of among ReadAction.Close is work does = as_done s t ReadProgress
       (close_works bytes client asked here s h v first growth cut t p r of among is) work does
-  reader_at s t p r of among ReadAction.Finish is work does = as_done s t ReadProgress
+  read_at s t p r of among ReadAction.Finish is work does = as_done s t ReadProgress
       (finish_works bytes client asked here s h v first growth cut t p r of among is) work does
-  reader_at s t p r of among _ is work does = absurd (nothing does)
+  read_at s t p r of among _ is work does = absurd (nothing does)
 
   -- a job that writes, at the session
-  writer_at : (s : Session) (t : OwnerAs (owner_by_parts bytes client asked here (Some s)) cut)
+  write_at : (s : Session) (t : OwnerAs (owner_by_parts bytes client asked here (Some s)) cut)
       (p : WriteProgress) (r : WriteAs p (acts_of s.number.serial cut))
       → its_kind s (bound bytes) cut t.last ≡ Writing
       → is_in s.number.serial (jobs_of (own cut)) ≡ true → (a : WriteAction) → write_next p.core ≡ a
-      → (work : Work WriteProgress) → writer_works a p s ≡ Some work
+      → (work : Work WriteProgress) → write_works a p s ≡ Some work
       → WorksOn bytes client asked here s h v first growth cut t WriteProgress work
-  writer_at s t p r of among WriteAction.Peek is work does =
+  write_at s t p r of among WriteAction.Peek is work does =
       as_done s t WriteProgress (peek_works bytes client asked here s h v first growth cut t p r of
       among is (found_piece s) refl) work does
-  writer_at s t p r of among (WriteAction.Consume count) is work does = by_fit (holds count s) does
+  write_at s t p r of among (WriteAction.Consume count) is work does = by_fit (holds count s) does
     where
-      by_fit : (b : Bool) → (if b then Some (work_of_consume count p s) else None) ≡ Some work
+      by_fit : (b : Bool) → (if b then Some (write_consumes count p s) else None) ≡ Some work
           → WorksOn bytes client asked here s h v first growth cut t WriteProgress work
       by_fit true does = as_done s t WriteProgress (consume_works bytes client asked here s h v
           first growth cut t p r of among count is) work does
       by_fit false does = absurd (nothing does)
-  writer_at s t p r of among WriteAction.Close is work does =
-      as_done s t WriteProgress (writer_close_works bytes client asked here s h v first growth cut t
+  write_at s t p r of among WriteAction.Close is work does =
+      as_done s t WriteProgress (write_close_works bytes client asked here s h v first growth cut t
       p r of among is) work does
-  writer_at s t p r of among WriteAction.Finish is work does =
-      as_done s t WriteProgress (writer_finish_works bytes client asked here s h v first growth cut
+  write_at s t p r of among WriteAction.Finish is work does =
+      as_done s t WriteProgress (write_finish_works bytes client asked here s h v first growth cut
       t p r of among is) work does
-  writer_at s t p r of among _ is work does = absurd (nothing does)
+  write_at s t p r of among _ is work does = absurd (nothing does)
 
   -- a job that runs an iterator, at the session
-  streamer_at : (s : Session) (t : OwnerAs (owner_by_parts bytes client asked here (Some s)) cut)
+  item_at : (s : Session) (t : OwnerAs (owner_by_parts bytes client asked here (Some s)) cut)
       (p : ItemProgress) (r : ItemAs p (acts_of s.number.serial cut))
       → its_kind s (bound bytes) cut t.last ≡ Streaming
       → is_in s.number.serial (jobs_of (own cut)) ≡ true → (a : ItemAction) → item_next p.core ≡ a
-      → (work : Work ItemProgress) → streamer_works a p s ≡ Some work
+      → (work : Work ItemProgress) → item_works a p s ≡ Some work
       → WorksOn bytes client asked here s h v first growth cut t ItemProgress work
-  streamer_at s t p r of among ItemAction.Send is work does =
+  item_at s t p r of among ItemAction.Send is work does =
       as_done s t ItemProgress (send_works bytes client asked here s h v first growth cut t p r of
       among is (found_send s) refl) work does
-  streamer_at s t p r of among ItemAction.Close is work does =
-      as_done s t ItemProgress (streamer_close_works bytes client asked here s h v first growth cut
+  item_at s t p r of among ItemAction.Close is work does =
+      as_done s t ItemProgress (item_close_works bytes client asked here s h v first growth cut
       t p r of among is) work does
-  streamer_at s t p r of among ItemAction.Finish is work does =
-      as_done s t ItemProgress (streamer_finish_works bytes client asked here s h v first growth cut
+  item_at s t p r of among ItemAction.Finish is work does =
+      as_done s t ItemProgress (item_finish_works bytes client asked here s h v first growth cut
       t p r of among is) work does
-  streamer_at s t p r of among _ is work does = absurd (nothing does)
+  item_at s t p r of among _ is work does = absurd (nothing does)
 
   -- a job that seeks, at the session
-  seeker_at : (s : Session) (t : OwnerAs (owner_by_parts bytes client asked here (Some s)) cut)
+  seek_at : (s : Session) (t : OwnerAs (owner_by_parts bytes client asked here (Some s)) cut)
       (p : SeekProgress) (r : SeekAs p (acts_of s.number.serial cut))
       → its_kind s (bound bytes) cut t.last ≡ Seeking p.goal
       → is_in s.number.serial (jobs_of (own cut)) ≡ true → (a : SeekAction) → seek_next p.core ≡ a
       → (work : Work SeekProgress) → seek_works a p s ≡ Some work
       → WorksOn bytes client asked here s h v first growth cut t SeekProgress work
-  seeker_at s t p r of among SeekAction.Finish is work does = as_done s t SeekProgress
+  seek_at s t p r of among SeekAction.Finish is work does = as_done s t SeekProgress
       (seek_finish_works bytes client asked here s h v first growth cut t p r of among is) work does
-  seeker_at s t p r of among _ is work does = absurd (nothing does)
+  seek_at s t p r of among _ is work does = absurd (nothing does)
 
   -- a job that runs an operation, at the session
   operator_at : (s : Session) (t : OwnerAs (owner_by_parts bytes client asked here (Some s)) cut)
       (p : OpProgress) (r : OperationAs p (acts_of s.number.serial cut))
       → its_kind s (bound bytes) cut t.last ≡ Operating
       → is_in s.number.serial (jobs_of (own cut)) ≡ true → (a : OpAction)
-      → operation_next p.core ≡ a → (work : Work OpProgress) → operation_works a p s ≡ Some work
+      → op_next p.core ≡ a → (work : Work OpProgress) → op_works a p s ≡ Some work
       → WorksOn bytes client asked here s h v first growth cut t OpProgress work
   operator_at s t p r of among OpAction.PutResult is work does = as_done s t OpProgress
       (result_works bytes client asked here s h v first growth cut t p r of among is) work does
   operator_at s t p r of among OpAction.Finish is work does =
-      as_done s t OpProgress (operation_finish_works bytes client asked here s h v first growth cut
+      as_done s t OpProgress (op_finish_works bytes client asked here s h v first growth cut
       t p r of among is) work does
   operator_at s t p r of among _ is work does = absurd (nothing does)
 
@@ -358,8 +358,8 @@ module _ (bytes client : ℕ) (asked : Option HandleCall) (here : OwnerStage) (h
   read_goes last n t p r of among a is done does = by a is does
     where
       idle : (s : Session) (a : ReadAction) → is_over (read_action_as p.piece a) ≡ true
-          → through OfBytes s.goods (work_by a p s) ≡ None
-      idle s ReadAction.Done over = through_none OfBytes s.goods (work_by ReadAction.Done p s) refl
+          → through OfBytes s.goods (read_works a p s) ≡ None
+      idle s ReadAction.Done over = through_none OfBytes s.goods (read_works ReadAction.Done p s) refl
       idle s _ over = absurd (cc)
 
       there : (a : ReadAction) → read_next p.core ≡ a → (a ≡ ReadAction.Deliver → ⊥)
@@ -370,9 +370,9 @@ module _ (bytes client : ℕ) (asked : Option HandleCall) (here : OwnerStage) (h
       there a is other (Some s) t does =
           at_session ReadProgress SessionJob.Read Reading (read_action_as p.piece a) n s t among of
           (of_reader.does p (acts_of n cut) r is other).table
-          (through OfBytes s.goods (work_by a p s)) (idle s a)
-          (λ same kind its work e. reader_at s t p (subst (λ m. ReadAs p (acts_of m cut)) same r)
-          kind its a is work (through_some OfBytes s.goods (work_by a p s) work e).1) done does
+          (through OfBytes s.goods (read_works a p s)) (idle s a)
+          (λ same kind its work e. read_at s t p (subst (λ m. ReadAs p (acts_of m cut)) same r)
+          kind its a is work (through_some OfBytes s.goods (read_works a p s) work e).1) done does
 
       by : (a : ReadAction) → read_next p.core ≡ a
           → read_as a p (owner_by_parts bytes client asked here last) ≡ Some done → WorkGoes n done
@@ -394,9 +394,9 @@ module _ (bytes client : ℕ) (asked : Option HandleCall) (here : OwnerStage) (h
   write_goes last n t p r of among a is done does = by a is does
     where
       idle : (s : Session) (a : WriteAction) → is_over (write_action_as p.piece a) ≡ true
-          → through OfBytes s.goods (writer_works a p s) ≡ None
+          → through OfBytes s.goods (write_works a p s) ≡ None
       idle s WriteAction.Done over =
-          through_none OfBytes s.goods (writer_works WriteAction.Done p s) refl
+          through_none OfBytes s.goods (write_works WriteAction.Done p s) refl
       idle s _ over = absurd (cc)
 
       there : (a : WriteAction) → write_next p.core ≡ a → (a ≡ WriteAction.Deliver → ⊥)
@@ -407,9 +407,9 @@ module _ (bytes client : ℕ) (asked : Option HandleCall) (here : OwnerStage) (h
       there a is other (Some s) t does =
           at_session WriteProgress SessionJob.Write Writing (write_action_as p.piece a) n s t among
           of (of_writer.does p (acts_of n cut) r is other).table
-          (through OfBytes s.goods (writer_works a p s)) (idle s a)
-          (λ same kind its work e. writer_at s t p (subst (λ m. WriteAs p (acts_of m cut)) same r)
-          kind its a is work (through_some OfBytes s.goods (writer_works a p s) work e).1) done does
+          (through OfBytes s.goods (write_works a p s)) (idle s a)
+          (λ same kind its work e. write_at s t p (subst (λ m. WriteAs p (acts_of m cut)) same r)
+          kind its a is work (through_some OfBytes s.goods (write_works a p s) work e).1) done does
 
       by : (a : WriteAction) → write_next p.core ≡ a
           → write_as a p (owner_by_parts bytes client asked here last) ≡ Some done → WorkGoes n done
@@ -422,35 +422,35 @@ module _ (bytes client : ℕ) (asked : Option HandleCall) (here : OwnerStage) (h
       by a is does = there a is (λ e. cc) last t does
 
   -- any act of a job that runs an iterator
-  stream_goes : (last : Option Session) (n : ℕ)
+  item_goes : (last : Option Session) (n : ℕ)
       → OwnerAs (owner_by_parts bytes client asked here last) cut → (p : ItemProgress)
       → ItemAs p (acts_of n cut) → kind_of_job n (own cut) ≡ Streaming
       → is_in n (jobs_of (own cut)) ≡ true → (a : ItemAction) → item_next p.core ≡ a
-      → (done : Worked) → stream_as a p (owner_by_parts bytes client asked here last) ≡ Some done
+      → (done : Worked) → item_as a p (owner_by_parts bytes client asked here last) ≡ Some done
       → WorkGoes n done
-  stream_goes last n t p r of among a is done does = by a is does
+  item_goes last n t p r of among a is done does = by a is does
     where
       idle : (s : Session) (a : ItemAction) → is_over (item_action_as p.item a) ≡ true
-          → through OfItems s.goods (streamer_works a p s) ≡ None
+          → through OfItems s.goods (item_works a p s) ≡ None
       idle s ItemAction.Done over =
-          through_none OfItems s.goods (streamer_works ItemAction.Done p s) refl
+          through_none OfItems s.goods (item_works ItemAction.Done p s) refl
       idle s _ over = absurd (cc)
 
       there : (a : ItemAction) → item_next p.core ≡ a → (a ≡ ItemAction.Deliver → ⊥)
           → (last : Option Session) → OwnerAs (owner_by_parts bytes client asked here last) cut
-          → stream_in a last p (owner_by_parts bytes client asked here last) ≡ Some done
+          → item_in a last p (owner_by_parts bytes client asked here last) ≡ Some done
           → WorkGoes n done
       there a is other None t does = absurd (nothing does)
       there a is other (Some s) t does =
           at_session ItemProgress SessionJob.Items Streaming (item_action_as p.item a) n s t among
           of (of_streamer.does p (acts_of n cut) r is other).table
-          (through OfItems s.goods (streamer_works a p s)) (idle s a)
-          (λ same kind its work e. streamer_at s t p (subst (λ m. ItemAs p (acts_of m cut)) same r)
+          (through OfItems s.goods (item_works a p s)) (idle s a)
+          (λ same kind its work e. item_at s t p (subst (λ m. ItemAs p (acts_of m cut)) same r)
           kind its a is work
-          (through_some OfItems s.goods (streamer_works a p s) work e).1) done does
+          (through_some OfItems s.goods (item_works a p s) work e).1) done does
 
       by : (a : ItemAction) → item_next p.core ≡ a
-          → stream_as a p (owner_by_parts bytes client asked here last) ≡ Some done
+          → item_as a p (owner_by_parts bytes client asked here last) ≡ Some done
           → WorkGoes n done
       by ItemAction.Deliver is does =
           subst (WorkGoes n) (ap (value_of done) does)
@@ -482,7 +482,7 @@ module _ (bytes client : ℕ) (asked : Option HandleCall) (here : OwnerStage) (h
       there a is other (Some s) t does =
           at_session SeekProgress SessionJob.Seek (Seeking p.goal) (seek_action_as a) n s t among of
           (of_seeker.does p (acts_of n cut) r is other).table (seek_works a p s) (idle s a)
-          (λ same kind its work e. seeker_at s t p (subst (λ m. SeekAs p (acts_of m cut)) same r)
+          (λ same kind its work e. seek_at s t p (subst (λ m. SeekAs p (acts_of m cut)) same r)
           kind its a is work e) done does
 
       by : (a : SeekAction) → seek_next p.core ≡ a
@@ -496,40 +496,40 @@ module _ (bytes client : ℕ) (asked : Option HandleCall) (here : OwnerStage) (h
       by a is does = there a is (λ e. cc) last t does
 
   -- any act of a job that runs an operation
-  operate_goes : (last : Option Session) (n : ℕ)
+  op_goes : (last : Option Session) (n : ℕ)
       → OwnerAs (owner_by_parts bytes client asked here last) cut → (p : OpProgress)
       → OperationAs p (acts_of n cut) → kind_of_job n (own cut) ≡ Operating
-      → is_in n (jobs_of (own cut)) ≡ true → (a : OpAction) → operation_next p.core ≡ a
-      → (done : Worked) → operate_as a p (owner_by_parts bytes client asked here last) ≡ Some done
+      → is_in n (jobs_of (own cut)) ≡ true → (a : OpAction) → op_next p.core ≡ a
+      → (done : Worked) → op_as a p (owner_by_parts bytes client asked here last) ≡ Some done
       → WorkGoes n done
-  operate_goes last n t p r of among a is done does = by a is does
+  op_goes last n t p r of among a is done does = by a is does
     where
-      idle : (s : Session) (a : OpAction) → is_over (operation_action_as a) ≡ true
-          → operation_works a p s ≡ None
+      idle : (s : Session) (a : OpAction) → is_over (op_action_as a) ≡ true
+          → op_works a p s ≡ None
       idle s OpAction.Done over = refl
       idle s _ over = absurd (cc)
 
-      there : (a : OpAction) → operation_next p.core ≡ a → (a ≡ OpAction.Deliver → ⊥)
+      there : (a : OpAction) → op_next p.core ≡ a → (a ≡ OpAction.Deliver → ⊥)
           → (last : Option Session) → OwnerAs (owner_by_parts bytes client asked here last) cut
-          → operate_in a last p (owner_by_parts bytes client asked here last) ≡ Some done
+          → op_in a last p (owner_by_parts bytes client asked here last) ≡ Some done
           → WorkGoes n done
       there a is other None t does = absurd (nothing does)
       there a is other (Some s) t does =
-          at_session OpProgress SessionJob.Operate Operating (operation_action_as a) n s t among of
-          (of_operator.does p (acts_of n cut) r is other).table (operation_works a p s) (idle s a)
+          at_session OpProgress SessionJob.Operate Operating (op_action_as a) n s t among of
+          (of_operator.does p (acts_of n cut) r is other).table (op_works a p s) (idle s a)
           (λ same kind its work e.
           operator_at s t p (subst (λ m. OperationAs p (acts_of m cut)) same r)
           kind its a is work e) done does
 
-      by : (a : OpAction) → operation_next p.core ≡ a
-          → operate_as a p (owner_by_parts bytes client asked here last) ≡ Some done
+      by : (a : OpAction) → op_next p.core ≡ a
+          → op_as a p (owner_by_parts bytes client asked here last) ≡ Some done
           → WorkGoes n done
       by OpAction.Deliver is does =
           subst (WorkGoes n) (ap (value_of done) does)
           (wake_goes bytes client asked here last h v n first growth cut t among
           (ap (λ k. next_of_job k (acts_of n cut)) of
-          ∙ law_is operation_action_as OpAction.Deliver refl Operating
-          (acts_of n cut) p.core r.next r.waking ∙ ap operation_action_as is))
+          ∙ law_is op_action_as OpAction.Deliver refl Operating
+          (acts_of n cut) p.core r.next r.waking ∙ ap op_action_as is))
       by a is does = there a is (λ e. cc) last t does
 
   -- its handle answers, at the session
@@ -542,13 +542,13 @@ module _ (bytes client : ℕ) (asked : Option HandleCall) (here : OwnerStage) (h
   answered_at s t (SessionJob.Read p) answer of among r is =
       answer_goes bytes client asked here s h v first growth cut t p r of among answer is
   answered_at s t (SessionJob.Write p) answer of among r is =
-      writer_answer_goes bytes client asked here s h v first growth cut t p r of among answer is
+      write_answer_goes bytes client asked here s h v first growth cut t p r of among answer is
   answered_at s t (SessionJob.Items p) answer of among r is =
       item_answer_goes bytes client asked here s h v first growth cut t p r of among answer is
   answered_at s t (SessionJob.Seek p) answer of among r is =
       seek_answer_goes bytes client asked here s h v first growth cut t p r of among answer is
   answered_at s t (SessionJob.Operate p) answer of among r is =
-      operation_answer_goes bytes client asked here s h v first growth cut t p r of among answer is
+      op_answer_goes bytes client asked here s h v first growth cut t p r of among answer is
 
   -- any act of its own
   pub works_goes : (last : Option Session) (n : ℕ)
@@ -561,11 +561,11 @@ module _ (bytes client : ℕ) (asked : Option HandleCall) (here : OwnerStage) (h
   works_goes last n t (SessionJob.Write p) r of among done does =
       write_goes last n t p r of among (write_next p.core) refl done does
   works_goes last n t (SessionJob.Items p) r of among done does =
-      stream_goes last n t p r of among (item_next p.core) refl done does
+      item_goes last n t p r of among (item_next p.core) refl done does
   works_goes last n t (SessionJob.Seek p) r of among done does =
       seek_goes last n t p r of among (seek_next p.core) refl done does
   works_goes last n t (SessionJob.Operate p) r of among done does =
-      operate_goes last n t p r of among (operation_next p.core) refl done does
+      op_goes last n t p r of among (op_next p.core) refl done does
 
 -- ---- each step
 
@@ -584,7 +584,7 @@ pub record IsAllowed (step : OwnerStep) (owner : Owner) (n : ℕ) (cut : List Ev
 begins_by : (a : OwnerAction ℕ) (last : Option Session) → next_by a last ≡ OwnerNext.Begins
     → a ≡ OwnerAction.Begin
 begins_by OwnerAction.Begin last e = refl
-begins_by (OwnerAction.Reply r) last e = absurd (never (reply_as (item_in last) r) e)
+begins_by (OwnerAction.Reply r) last e = absurd (never (reply_as (last_item last) r) e)
   where
     never : (told : Option Told) → next_to_say told ≡ OwnerNext.Begins → ⊥
     never None e = cc

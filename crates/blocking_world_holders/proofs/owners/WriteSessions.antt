@@ -271,12 +271,12 @@ module _ (s : Session) (capacity : ℕ) (last : Option SeenSession) (shut back d
       (λ none. absurd (fails (OfferBytes piece) answer why e failed none))
 
   -- it answers what it was asked for
-  pub writer_answers : (action : JobAction) (answer : HandleAnswer) → is_answer action answer ≡ true
+  pub write_answers : (action : JobAction) (answer : HandleAnswer) → is_answer action answer ≡ true
       → next_but_wake Writing acts ≡ action
       → SessionAs s Writing capacity last shut back dropped took accepted acts js ps ss
       → SessionAs s Writing capacity last shut back dropped took accepted (Answered answer ∷ acts)
       js ps ss
-  writer_answers (OfferBytes piece) (Number (suc k)) fits e t =
+  write_answers (OfferBytes piece) (Number (suc k)) fits e t =
       let a = at s Writing capacity last shut back dropped took accepted acts js ps ss
       (OfferBytes piece) e t in
       let p = a.flow.written_is in
@@ -296,14 +296,14 @@ module _ (s : Session) (capacity : ℕ) (last : Option SeenSession) (shut back d
       )
       (p.0, took_is, omega (arith, many, whole))
       (λ none. a.flow.sound (goes_well (OfferBytes piece) (Number (suc k)) e refl none))
-  writer_answers (OfferBytes piece) (Number zero) fits e t =
+  write_answers (OfferBytes piece) (Number zero) fits e t =
       nothing_taken piece (Number 0) WriteZero (λ found. refl) refl refl refl e (at s Writing
       capacity last shut back dropped took accepted acts js ps ss (OfferBytes piece) e t)
-  writer_answers (OfferBytes piece) (Failed error) fits e t =
+  write_answers (OfferBytes piece) (Failed error) fits e t =
       nothing_taken piece (Failed error) (Io error) (λ found. refl) refl refl refl e (at s Writing
       capacity last shut back dropped took accepted acts js ps ss (OfferBytes piece) e t)
-  writer_answers (OfferBytes piece) _ fits e t = absurd (cc)
-  writer_answers AskFlush Fine fits e t =
+  write_answers (OfferBytes piece) _ fits e t = absurd (cc)
+  write_answers AskFlush Fine fits e t =
       let a =
       at s Writing capacity last shut back dropped took accepted acts js ps ss AskFlush e t in
       let p = a.flow.written_is in
@@ -312,7 +312,7 @@ module _ (s : Session) (capacity : ℕ) (last : Option SeenSession) (shut back d
       (subst (λ l. IsBeginning l accepted) (sym same) a.flow.begun)
       (p.0, same ∙ p.1, (λ none. p.2 (goes_well AskFlush Fine e refl none), λ none. refl))
       (λ none. a.flow.sound (goes_well AskFlush Fine e refl none))
-  writer_answers AskFlush (Failed error) fits e t =
+  write_answers AskFlush (Failed error) fits e t =
       let a =
       at s Writing capacity last shut back dropped took accepted acts js ps ss AskFlush e t in
       let p = a.flow.written_is in
@@ -327,15 +327,15 @@ module _ (s : Session) (capacity : ℕ) (last : Option SeenSession) (shut back d
         ),
       )
       (λ none. absurd (fails AskFlush (Failed error) (Io error) e refl none))
-  writer_answers AskFlush _ fits e t = absurd (cc)
-  writer_answers AskCall answer fits e t = absurd ((at s Writing capacity last shut back dropped
+  write_answers AskFlush _ fits e t = absurd (cc)
+  write_answers AskCall answer fits e t = absurd ((at s Writing capacity last shut back dropped
       took accepted acts js ps ss AskCall e t).flow.written_is)
-  writer_answers (AskBytes n) answer fits e t = absurd ((at s Writing capacity last shut back
+  write_answers (AskBytes n) answer fits e t = absurd ((at s Writing capacity last shut back
       dropped took accepted acts js ps ss (AskBytes n) e t).flow.written_is)
-  writer_answers AskItem answer fits e t = absurd ((at s Writing capacity last shut back dropped
+  write_answers AskItem answer fits e t = absurd ((at s Writing capacity last shut back dropped
       took accepted acts js ps ss AskItem e t).flow.written_is)
-  writer_answers AskSeek answer fits e t = absurd ((at s Writing capacity last shut back dropped
+  write_answers AskSeek answer fits e t = absurd ((at s Writing capacity last shut back dropped
       took accepted acts js ps ss AskSeek e t).flow.written_is)
-  writer_answers AskResult answer fits e t = absurd ((at s Writing capacity last shut back dropped
+  write_answers AskResult answer fits e t = absurd ((at s Writing capacity last shut back dropped
       took accepted acts js ps ss AskResult e t).flow.written_is)
-  writer_answers _ answer fits e t = absurd (cc)
+  write_answers _ answer fits e t = absurd (cc)

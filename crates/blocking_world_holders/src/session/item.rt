@@ -22,7 +22,7 @@ pub(crate) enum Obtained {
 impl Session {
     ghost use Rattle.blocking_core.specs.Items.{item_next};
     ghost use Rattle.blocking_world_holders.specs.Passages.{OfItems, through, is_piped};
-    ghost use Rattle.blocking_world_holders.specs.Sessions.{found_send, streamer_closes, streamer_finishes, streamer_works, work_at_send, IsWork, received, session_after_receive};
+    ghost use Rattle.blocking_world_holders.specs.Sessions.{found_send, item_closes, item_finishes, item_works, item_at_send, IsWork, received, session_after_receive};
     ghost use Rattle.blocking_world_holders.specs.Owners.{obtained_as};
 
     /// The owner receives an item, which is kept.
@@ -51,7 +51,7 @@ impl Session {
     // The job sends the item that its handle gave, and is seated where there is no room.
     fn send(&mut self, job: &mut ItemProgress) -> Act
         requires { self.old.goods ≡ OfItems }
-        ensures { work_at_send (found_send self.old) job.old self.old
+        ensures { item_at_send (found_send self.old) job.old self.old
             ≡ record { act = result; job = job.new; session = self.new } }
     {
         let Passage::Items(pipe) = &mut self.passage else {
@@ -75,9 +75,9 @@ impl Session {
     }
 
     // The job closes its end of the pipe.
-    fn close_streamer(&mut self, job: &mut ItemProgress) -> Act
+    fn close_item(&mut self, job: &mut ItemProgress) -> Act
         requires { is_piped self.old.goods ≡ true }
-        ensures { streamer_closes job.old self.old
+        ensures { item_closes job.old self.old
             ≡ record { act = result; job = job.new; session = self.new } }
     {
         let woke = self.passage.close_job();
@@ -86,8 +86,8 @@ impl Session {
     }
 
     // The job puts its result into the slot.
-    fn finish_streamer(&mut self, job: &mut ItemProgress) -> Act
-        ensures { streamer_finishes job.old self.old
+    fn finish_item(&mut self, job: &mut ItemProgress) -> Act
+        ensures { item_finishes job.old self.old
             ≡ record { act = result; job = job.new; session = self.new } }
     {
         let woke = self.slot.put(None).wake.is_some();
@@ -97,7 +97,7 @@ impl Session {
 
     /// A job that runs an iterator takes its next action, where it takes it at its session: what is seen of it.
     pub(crate) fn stream(&mut self, job: &mut ItemProgress) -> Option<Act>
-        ensures { IsWork (through OfItems self.old.goods (streamer_works (item_next job.old.core) job.old self.old)) job.old self.old result
+        ensures { IsWork (through OfItems self.old.goods (item_works (item_next job.old.core) job.old self.old)) job.old self.old result
             job.new self.new }
     {
         if !self.is_of_items() {
@@ -105,8 +105,8 @@ impl Session {
         }
         match job.next() {
             ItemAction::Send => Some(self.send(job)),
-            ItemAction::Close => Some(self.close_streamer(job)),
-            ItemAction::Finish => Some(self.finish_streamer(job)),
+            ItemAction::Close => Some(self.close_item(job)),
+            ItemAction::Finish => Some(self.finish_item(job)),
             ItemAction::Next | ItemAction::Deliver | ItemAction::Done => None,
         }
     }

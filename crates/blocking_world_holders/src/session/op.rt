@@ -18,8 +18,8 @@ pub(crate) enum Awaited {
 }
 
 impl Session {
-    ghost use Rattle.blocking_core.specs.Ops.{operation_next};
-    ghost use Rattle.blocking_world_holders.specs.Sessions.{IsWork, session_after_find, operation_puts, operation_finishes, operation_works};
+    ghost use Rattle.blocking_core.specs.Ops.{op_next};
+    ghost use Rattle.blocking_world_holders.specs.Sessions.{IsWork, session_after_find, op_puts, op_finishes, op_works};
     ghost use Rattle.blocking_world_holders.specs.Owners.{awaited_as};
 
     /// The owner looks for the result of its operation, which is kept, and is seated where it may still come.
@@ -39,7 +39,7 @@ impl Session {
 
     // The job puts the result of its operation.
     fn put_result(&mut self, job: &mut OpProgress) -> Act
-        ensures { operation_puts job.old self.old
+        ensures { op_puts job.old self.old
             ≡ record { act = result; job = job.new; session = self.new } }
     {
         let woke = self.result.put(job.number()).wake.is_some();
@@ -48,8 +48,8 @@ impl Session {
     }
 
     // The job puts its own result into the slot.
-    fn finish_operation(&mut self, job: &mut OpProgress) -> Act
-        ensures { operation_finishes job.old self.old
+    fn finish_op(&mut self, job: &mut OpProgress) -> Act
+        ensures { op_finishes job.old self.old
             ≡ record { act = result; job = job.new; session = self.new } }
     {
         let woke = self.slot.put(None).wake.is_some();
@@ -59,11 +59,11 @@ impl Session {
 
     /// A job that runs an operation takes its next action, where it takes it at its session: what is seen of it.
     pub(crate) fn operate(&mut self, job: &mut OpProgress) -> Option<Act>
-        ensures { IsWork (operation_works (operation_next job.old.core) job.old self.old) job.old self.old result job.new self.new }
+        ensures { IsWork (op_works (op_next job.old.core) job.old self.old) job.old self.old result job.new self.new }
     {
         match job.next() {
             OpAction::PutResult => Some(self.put_result(job)),
-            OpAction::Finish => Some(self.finish_operation(job)),
+            OpAction::Finish => Some(self.finish_op(job)),
             OpAction::Call | OpAction::Deliver | OpAction::Done => None,
         }
     }

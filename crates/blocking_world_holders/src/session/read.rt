@@ -24,7 +24,7 @@ impl Session {
     ghost use Rattle.std.specs.Prelude.{vec_len};
     ghost use Rattle.blocking_core.specs.Reads.{read_next};
     ghost use Rattle.blocking_world_holders.specs.Passages.{OfBytes, through, is_piped};
-    ghost use Rattle.blocking_world_holders.specs.Sessions.{reach, drained, session_after_drain, work_by, work_at_room, work_at_put, work_of_close, work_of_finish, found_room, found_put, fits_in, IsWork};
+    ghost use Rattle.blocking_world_holders.specs.Sessions.{reach, drained, session_after_drain, read_works, read_at_room, read_at_put, read_closes, read_finishes, found_room, found_put, fits_in, IsWork};
     ghost use Rattle.blocking_world_holders.specs.Owners.{found_as};
 
     /// How many bytes come out where the owner wants at most so many, one at least.
@@ -85,7 +85,7 @@ impl Session {
     // The job looks for room, and is seated where there is none.
     fn find_room(&mut self, job: &mut ReadProgress) -> Act
         requires { self.old.goods ≡ OfBytes }
-        ensures { work_at_room (found_room self.old) job.old self.old
+        ensures { read_at_room (found_room self.old) job.old self.old
             ≡ record { act = result; job = job.new; session = self.new } }
     {
         let Passage::Bytes(pipe) = &mut self.passage else {
@@ -111,7 +111,7 @@ impl Session {
     fn put(&mut self, job: &mut ReadProgress) -> Act
         requires bytes { self.old.goods ≡ OfBytes }
         requires fits { fits_in job.old.piece self.old ≡ true }
-        ensures { work_at_put (found_put job.old.piece self.old) job.old self.old
+        ensures { read_at_put (found_put job.old.piece self.old) job.old self.old
             ≡ record { act = result; job = job.new; session = self.new } }
     {
         let Passage::Bytes(pipe) = &mut self.passage else {
@@ -132,9 +132,9 @@ impl Session {
     }
 
     // The job closes its end of the pipe.
-    fn close_job(&mut self, job: &mut ReadProgress) -> Act
+    fn close_read(&mut self, job: &mut ReadProgress) -> Act
         requires { is_piped self.old.goods ≡ true }
-        ensures { work_of_close job.old self.old
+        ensures { read_closes job.old self.old
             ≡ record { act = result; job = job.new; session = self.new } }
     {
         let woke = self.passage.close_job();
@@ -143,8 +143,8 @@ impl Session {
     }
 
     // The job puts its result into the slot.
-    fn finish(&mut self, job: &mut ReadProgress) -> Act
-        ensures { work_of_finish job.old self.old
+    fn finish_read(&mut self, job: &mut ReadProgress) -> Act
+        ensures { read_finishes job.old self.old
             ≡ record { act = result; job = job.new; session = self.new } }
     {
         let woke = self.slot.put(job.fault()).wake.is_some();
@@ -154,7 +154,7 @@ impl Session {
 
     /// A job that reads takes its next action, where it takes it at its session: what is seen of it.
     pub(crate) fn read(&mut self, job: &mut ReadProgress) -> Option<Act>
-        ensures { IsWork (through OfBytes self.old.goods (work_by (read_next job.old.core) job.old self.old)) job.old self.old result job.new self.new }
+        ensures { IsWork (through OfBytes self.old.goods (read_works (read_next job.old.core) job.old self.old)) job.old self.old result job.new self.new }
     {
         if !self.is_of_bytes() {
             return None;
@@ -162,8 +162,8 @@ impl Session {
         match job.next() {
             ReadAction::FindRoom => Some(self.find_room(job)),
             ReadAction::Put(_) if job.piece().len() <= self.passage.room() => Some(self.put(job)),
-            ReadAction::Close => Some(self.close_job(job)),
-            ReadAction::Finish => Some(self.finish(job)),
+            ReadAction::Close => Some(self.close_read(job)),
+            ReadAction::Finish => Some(self.finish_read(job)),
             ReadAction::Put(_) | ReadAction::Read(_) | ReadAction::Deliver | ReadAction::Done => {
                 None
             }

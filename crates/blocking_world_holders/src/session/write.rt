@@ -25,7 +25,7 @@ impl Session {
     ghost use Rattle.std.specs.Prelude.{IfOk, OnErr};
     ghost use Rattle.blocking_core.specs.Writes.{write_next};
     ghost use Rattle.blocking_world_holders.specs.Passages.{OfBytes, through, is_piped};
-    ghost use Rattle.blocking_world_holders.specs.Sessions.{filled, session_after_fill, front, found_piece, holds, work_at_peek, work_of_consume, writer_closes, writer_finishes, writer_works, IsWork};
+    ghost use Rattle.blocking_world_holders.specs.Sessions.{filled, session_after_fill, front, found_piece, holds, write_at_peek, write_consumes, write_closes, write_finishes, write_works, IsWork};
     ghost use Rattle.blocking_world_holders.specs.Owners.{entered_as};
 
     /// The owner fills the pipe with the first of these bytes, as many as there is room for.
@@ -59,7 +59,7 @@ impl Session {
     // The job looks at the front of the pipe. The memory for what it finds there is taken before it does.
     fn find_piece(&mut self, alloc: Global, job: &mut WriteProgress) -> Result<Act, AllocError>
         requires { self.old.goods ≡ OfBytes }
-        ensures ok { IfOk result (λ act. work_at_peek (found_piece self.old) job.old self.old
+        ensures ok { IfOk result (λ act. write_at_peek (found_piece self.old) job.old self.old
             ≡ record { act = act; job = job.new; session = self.new }) }
         ensures err { OnErr result ((job.new ≡ job.old) × (self.new ≡ self.old)) }
     {
@@ -84,7 +84,7 @@ impl Session {
     fn find_no_piece(&mut self, job: &mut WriteProgress) -> Act
         requires bytes { self.old.goods ≡ OfBytes }
         requires empty { self.old.pipe.items ≡ [] }
-        ensures { work_at_peek (found_piece self.old) job.old self.old
+        ensures { write_at_peek (found_piece self.old) job.old self.old
             ≡ record { act = result; job = job.new; session = self.new } }
     {
         let Passage::Bytes(pipe) = &mut self.passage else {
@@ -108,7 +108,7 @@ impl Session {
     fn consume(&mut self, job: &mut WriteProgress, count: usize) -> Act
         requires bytes { self.old.goods ≡ OfBytes }
         requires inside { holds count self.old ≡ true }
-        ensures { work_of_consume count job.old self.old
+        ensures { write_consumes count job.old self.old
             ≡ record { act = result; job = job.new; session = self.new } }
     {
         let Passage::Bytes(pipe) = &mut self.passage else {
@@ -120,9 +120,9 @@ impl Session {
     }
 
     // The job closes its end of the pipe.
-    fn close_writer(&mut self, job: &mut WriteProgress) -> Act
+    fn close_write(&mut self, job: &mut WriteProgress) -> Act
         requires { is_piped self.old.goods ≡ true }
-        ensures { writer_closes job.old self.old
+        ensures { write_closes job.old self.old
             ≡ record { act = result; job = job.new; session = self.new } }
     {
         let woke = self.passage.close_job();
@@ -131,8 +131,8 @@ impl Session {
     }
 
     // The job puts its result into the slot.
-    fn finish_writer(&mut self, job: &mut WriteProgress) -> Act
-        ensures { writer_finishes job.old self.old
+    fn finish_write(&mut self, job: &mut WriteProgress) -> Act
+        ensures { write_finishes job.old self.old
             ≡ record { act = result; job = job.new; session = self.new } }
     {
         let woke = self.slot.put(job.fault()).wake.is_some();
@@ -147,7 +147,7 @@ impl Session {
         alloc: Global,
         job: &mut WriteProgress,
     ) -> Result<Option<Act>, AllocError>
-        ensures ok { IfOk result (λ seen. IsWork (through OfBytes self.old.goods (writer_works (write_next job.old.core) job.old self.old)) job.old self.old seen
+        ensures ok { IfOk result (λ seen. IsWork (through OfBytes self.old.goods (write_works (write_next job.old.core) job.old self.old)) job.old self.old seen
             job.new self.new) }
         ensures err { OnErr result ((job.new ≡ job.old) × (self.new ≡ self.old)) }
     {
@@ -159,8 +159,8 @@ impl Session {
             WriteAction::Consume(count) if count <= self.passage.len() => {
                 Some(self.consume(job, count))
             }
-            WriteAction::Close => Some(self.close_writer(job)),
-            WriteAction::Finish => Some(self.finish_writer(job)),
+            WriteAction::Close => Some(self.close_write(job)),
+            WriteAction::Finish => Some(self.finish_write(job)),
             WriteAction::Consume(_)
             | WriteAction::Write(_)
             | WriteAction::Flush

@@ -5,7 +5,7 @@ use Rattle.std.proofs.Common.{None, arith}
 use Rattle.blocking_world_state.proofs.Types.{Fault, OwnerAction, Act, Reply as Told, HandleCall}
 use Rattle.blocking_world_state.proofs.Types.{OwnerStage}
 use Rattle.blocking_world_state.proofs.Words.{OwnerMachine, owner_next, Content, Empty, Full}
-use Rattle.blocking_world_state.proofs.Words.{Abandoned, Owner, item_in, reply_as, next_by, next_of}
+use Rattle.blocking_world_state.proofs.Words.{Abandoned, Owner, last_item, reply_as, next_by, next_of}
 use Rattle.blocking_world_state.proofs.Words.{Did, looked_as, awaited_as, close_did, drain_did}
 use Rattle.blocking_world_state.proofs.Words.{receive_did, fill_did, fill_did_in, drop_did}
 use Rattle.blocking_world_state.proofs.Words.{stage_after_reply, look_did, find_did, reply_did}
@@ -85,7 +85,7 @@ module _ (P : Did → Type 0) (owner : Owner) where
 
     of_next : (next : OwnerAction ℕ) (last : Option Session) → owner.session ≡ last
         → next_of owner ≡ next_by next last → did_in next poll last owner ≡ Some done → P done
-    of_next (action.Reply reply) last here goes is = of_reply (reply_as (item_in last) reply) is
+    of_next (action.Reply reply) last here goes is = of_reply (reply_as (last_item last) reply) is
     of_next (action.Fill most) last here goes is = of_fill owner.asked last here is
     of_next action.DropHandle last here goes is = moved P _ done is each.drops
     of_next action.Close (Some s) here goes is =

@@ -7,21 +7,21 @@ use Rattle.std.proofs.lemmas.List.{length-take}
 use Rattle.blocking_world_state.proofs.Types.{Fault, ItemAction, OpAction, ReadAction, SeekAction}
 use Rattle.blocking_world_state.proofs.Types.{WriteAction, Act, Finished, HolderWoken, JobClosed}
 use Rattle.blocking_world_state.proofs.Types.{JobParked, ResultPut, TakenOut, SessionJob}
-use Rattle.blocking_world_state.proofs.Words.{item_next, operation_next, room, Met, Served, Waiting}
+use Rattle.blocking_world_state.proofs.Words.{item_next, op_next, room, Met, Served, Waiting}
 use Rattle.blocking_world_state.proofs.Words.{peek, read_next, seek_next, after_put, write_next}
 use Rattle.blocking_world_state.proofs.Words.{FindRoom, Peek, SendItem, waker_in, is_of_pool}
 use Rattle.blocking_world_state.proofs.Words.{is_nothing, is_answered, may_act, Owner, Worked}
 use Rattle.blocking_world_state.proofs.Words.{worked_by, calls_waker, read_in, read_as, write_in}
-use Rattle.blocking_world_state.proofs.Words.{write_as, stream_in, stream_as, seek_in, seek_as}
-use Rattle.blocking_world_state.proofs.Words.{operate_in, operate_as, worked, Goods, OfBytes}
+use Rattle.blocking_world_state.proofs.Words.{write_as, item_in, item_as, seek_in, seek_as}
+use Rattle.blocking_world_state.proofs.Words.{op_in, op_as, worked, Goods, OfBytes}
 use Rattle.blocking_world_state.proofs.Words.{OfItems, through, Session, found_room}
 use Rattle.blocking_world_state.proofs.Words.{session_after_room, found_put, session_after_put}
 use Rattle.blocking_world_state.proofs.Words.{fits_in, closing_wakes, finish_wakes}
 use Rattle.blocking_world_state.proofs.Words.{session_after_job_close, session_after_finish, front}
 use Rattle.blocking_world_state.proofs.Words.{found_piece, session_after_peek, holds}
-use Rattle.blocking_world_state.proofs.Words.{session_after_consume, Work, work_at_put, work_by}
-use Rattle.blocking_world_state.proofs.Words.{work_of_consume, writer_works, found_send}
-use Rattle.blocking_world_state.proofs.Words.{session_after_send, streamer_works, result_wakes}
+use Rattle.blocking_world_state.proofs.Words.{session_after_consume, Work, read_at_put, read_works}
+use Rattle.blocking_world_state.proofs.Words.{write_consumes, write_works, found_send}
+use Rattle.blocking_world_state.proofs.Words.{session_after_send, item_works, result_wakes}
 use Rattle.blocking_world_state.proofs.Words.{bytes_of, is_first}
 use Rattle.blocking_core.specs.Places.{hand_in}
 use Rattle.blocking_core.specs.declared.job.item.ItemAction.TheVariants as item
@@ -152,14 +152,14 @@ module _ (owner : Owner) (done : Worked) where
 
   -- a job that reads
   read_at : (a : ReadAction) (p : reads.Progress) → read_next p.core ≡ a → (s : Session)
-      → owner.session ≡ Some s → worked_by job_of.Read (work_by a p s) owner ≡ Some done
+      → owner.session ≡ Some s → worked_by job_of.Read (read_works a p s) owner ≡ Some done
       → ActsAt (job_of.Read p) owner done
   read_at read.FindRoom p is s here does = acts (job_of.Read p) _ s (FindsRoom (found_room s)) here
       (ap (reads.action_as p.piece) is) does refl
   read_at (read.Put count) p is s here does = by (fits_in p.piece s) refl does
     where
       by : (b : Bool) → fits_in p.piece s ≡ b → worked_by job_of.Read
-          (if b then Some (work_at_put (found_put p.piece s) p s) else None) owner ≡ Some done
+          (if b then Some (read_at_put (found_put p.piece s) p s) else None) owner ≡ Some done
           → ActsAt (job_of.Read p) owner done
       by true fits does = acts (job_of.Read p) _ s (Puts p.piece (found_put p.piece s)) here
           (never_waits (length p.piece) (room s.pipe) s.pipe.is_owner_open s.pipe.owner_seat fits)
@@ -177,18 +177,18 @@ module _ (owner : Owner) (done : Worked) where
   read_does a p is does =
       at_last (job_of.Read p) (λ last. read_in a last p owner) refl
       (λ s here does. read_at a p is s here (works_anyhow reads.Progress job_of.Read OfBytes
-      s.goods (work_by a p s) owner done does)) does
+      s.goods (read_works a p s) owner done does)) does
 
   -- a job that writes
   write_at : (a : WriteAction) (p : writes.Progress) → write_next p.core ≡ a → (s : Session)
-      → owner.session ≡ Some s → worked_by job_of.Write (writer_works a p s) owner ≡ Some done
+      → owner.session ≡ Some s → worked_by job_of.Write (write_works a p s) owner ≡ Some done
       → ActsAt (job_of.Write p) owner done
   write_at write.Peek p is s here does = acts (job_of.Write p) _ s (Peeks (found_piece s)) here
       (ap (writes.action_as p.piece) is, refl) does refl
   write_at (write.Consume count) p is s here does = by (holds count s) does
     where
       by : (b : Bool)
-          → worked_by job_of.Write (if b then Some (work_of_consume count p s) else None) owner
+          → worked_by job_of.Write (if b then Some (write_consumes count p s) else None) owner
           ≡ Some done → ActsAt (job_of.Write p) owner done
       by true does =
           acts (job_of.Write p) _ s (TakesOut count (waker_in (closing_wakes s))) here tt does refl
@@ -206,27 +206,27 @@ module _ (owner : Owner) (done : Worked) where
   write_does a p is does =
       at_last (job_of.Write p) (λ last. write_in a last p owner) refl
       (λ s here does. write_at a p is s here (works_anyhow writes.Progress job_of.Write OfBytes
-      s.goods (writer_works a p s) owner done does)) does
+      s.goods (write_works a p s) owner done does)) does
 
   -- a job that runs an iterator
-  stream_at : (a : ItemAction) (p : streams.Progress) → item_next p.core ≡ a → (s : Session)
-      → owner.session ≡ Some s → worked_by job_of.Items (streamer_works a p s) owner ≡ Some done
+  item_at : (a : ItemAction) (p : streams.Progress) → item_next p.core ≡ a → (s : Session)
+      → owner.session ≡ Some s → worked_by job_of.Items (item_works a p s) owner ≡ Some done
       → ActsAt (job_of.Items p) owner done
-  stream_at item.Send p is s here does = acts (job_of.Items p) _ s (Sends p.item (found_send s))
+  item_at item.Send p is s here does = acts (job_of.Items p) _ s (Sends p.item (found_send s))
       here (ap (streams.action_as p.item) is) does refl
-  stream_at item.Close p is s here does =
+  item_at item.Close p is s here does =
       acts (job_of.Items p) _ s (Closes (waker_in (closing_wakes s))) here tt does refl
-  stream_at item.Finish p is s here does =
+  item_at item.Finish p is s here does =
       acts (job_of.Items p) _ s (Finishes None (waker_in (finish_wakes None s))) here tt does refl
-  stream_at _ p is s here does = absurd cc
+  item_at _ p is s here does = absurd cc
 
-  stream_does : (a : ItemAction) (p : streams.Progress) → item_next p.core ≡ a
-      → stream_as a p owner ≡ Some done → DoesSo (job_of.Items p) owner done
-  stream_does item.Deliver p is does = wakes (job_of.Items p) _ does refl
-  stream_does a p is does =
-      at_last (job_of.Items p) (λ last. stream_in a last p owner)
-      refl (λ s here does. stream_at a p is s here (works_anyhow streams.Progress job_of.Items
-      OfItems s.goods (streamer_works a p s) owner done does)) does
+  item_does : (a : ItemAction) (p : streams.Progress) → item_next p.core ≡ a
+      → item_as a p owner ≡ Some done → DoesSo (job_of.Items p) owner done
+  item_does item.Deliver p is does = wakes (job_of.Items p) _ does refl
+  item_does a p is does =
+      at_last (job_of.Items p) (λ last. item_in a last p owner)
+      refl (λ s here does. item_at a p is s here (works_anyhow streams.Progress job_of.Items
+      OfItems s.goods (item_works a p s) owner done does)) does
 
   -- a job that seeks
   seek_at : (a : SeekAction) (p : seeks.Progress) (s : Session) → owner.session ≡ Some s
@@ -242,19 +242,19 @@ module _ (owner : Owner) (done : Worked) where
       at_last (job_of.Seek p) (λ last. seek_in a last p owner) refl (seek_at a p) does
 
   -- a job that runs an operation
-  operate_at : (a : OpAction) (p : operations.Progress) (s : Session) → owner.session ≡ Some s
-      → operate_in a (Some s) p owner ≡ Some done → ActsAt (job_of.Operate p) owner done
-  operate_at operation.PutResult p s here does = acts (job_of.Operate p) _ s
+  op_at : (a : OpAction) (p : operations.Progress) (s : Session) → owner.session ≡ Some s
+      → op_in a (Some s) p owner ≡ Some done → ActsAt (job_of.Operate p) owner done
+  op_at operation.PutResult p s here does = acts (job_of.Operate p) _ s
       (PutsResult p.number (waker_in (result_wakes p.number s))) here tt does refl
-  operate_at operation.Finish p s here does =
+  op_at operation.Finish p s here does =
       acts (job_of.Operate p) _ s (Finishes None (waker_in (finish_wakes None s))) here tt does refl
-  operate_at _ p s here does = absurd cc
+  op_at _ p s here does = absurd cc
 
-  operate_does : (a : OpAction) (p : operations.Progress) → operate_as a p owner ≡ Some done
+  op_does : (a : OpAction) (p : operations.Progress) → op_as a p owner ≡ Some done
       → DoesSo (job_of.Operate p) owner done
-  operate_does operation.Deliver p does = wakes (job_of.Operate p) _ does refl
-  operate_does a p does =
-      at_last (job_of.Operate p) (λ last. operate_in a last p owner) refl (operate_at a p) does
+  op_does operation.Deliver p does = wakes (job_of.Operate p) _ does refl
+  op_does a p does =
+      at_last (job_of.Operate p) (λ last. op_in a last p owner) refl (op_at a p) does
 
 pub worked_so : (job : SessionJob) (owner : Owner) (done : Worked) → worked job owner ≡ Some done
     → DoesSo job owner done
@@ -262,8 +262,8 @@ worked_so (job_of.Read p) owner done does = read_does owner done (read_next p.co
 worked_so (job_of.Write p) owner done does = write_does owner done (write_next p.core) p refl does
 worked_so (job_of.Seek p) owner done does = seek_does owner done (seek_next p.core) p does
 worked_so (job_of.Operate p) owner done does =
-    operate_does owner done (operation_next p.core) p does
-worked_so (job_of.Items p) owner done does = stream_does owner done (item_next p.core) p refl does
+    op_does owner done (op_next p.core) p does
+worked_so (job_of.Items p) owner done does = item_does owner done (item_next p.core) p refl does
 
 -- ---- what each act is
 

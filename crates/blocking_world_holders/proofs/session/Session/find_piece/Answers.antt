@@ -3,7 +3,7 @@ use Rattle.std.proofs.Common.{◌∙◌, arith, min, take, drop, append-nil, len
 use Rattle.std.proofs.lemmas.List.{take_min, with_items_is}
 use Rattle.std.proofs.Math.ListN.{drop_of_length-le}
 use Rattle.blocking_world_holders.proofs.Types.{Bytes}
-use Rattle.blocking_world_holders.proofs.Words.{Served, peek, Session, work_at_peek}
+use Rattle.blocking_world_holders.proofs.Words.{Served, peek, Session, write_at_peek}
 use Rattle.blocking_world_holders.specs.contracts.session.Session.{the_view}
 use Rattle.blocking_world_holders.proofs.session.Session.find_piece.Goals as goal
 
@@ -48,4 +48,4 @@ returns-clause-ok c =
     let told : c.in_ok-told.told ≡ c.new-piece.result = c.in_ok-told.ensures in
     let after = c.find.ensures in
     let same = e.3 in
-    rw (sym seen) (ap (λ m. work_at_peek m c.args.job.now here) met.0 ∙ cc)
+    rw (sym seen) (ap (λ m. write_at_peek m c.args.job.now here) met.0 ∙ cc)
