@@ -1,7 +1,7 @@
 -- New assemblies are lawful.
 use Rattle.std.proofs.Common.{◌≡◌, ◌<◌, ℕ, List, [], Bool, refl, sym, subst}
 use Rattle.blocking_pool.specs.Pools.{empty_pool}
-use Rattle.blocking_world_state.proofs.laws.Whole.{begins_lawful}
+use Rattle.blocking_world_state.proofs.laws.Legality.{begins_lawful}
 use Rattle.blocking_world_copiers.specs.Assemblies.{Assembled}
 use Rattle.blocking_world_copiers.specs.Ties.{IsLawful}
 

@@ -11,7 +11,7 @@ use Rattle.blocking_world_laws.specs.declared.step.Step.TheVariants.{Ask, Own, D
 use Rattle.blocking_world_laws.specs.declared.step.Step.TheVariants.{Copy}
 use Rattle.blocking_world_laws.specs.declared.step.HandleCall.{HandleCall}
 use Rattle.blocking_world_state.specs.Carried.{bytes_of, bytes_to_come as bytes_of_parts}
-use Rattle.blocking_world_state.proofs.laws.Whole.{carried}
+use Rattle.blocking_world_state.proofs.laws.Legality.{carried}
 use Rattle.blocking_world_copiers.specs.Assemblies.{Assembled, Takes, Copies, IfLent, IfLinks}
 use Rattle.blocking_world_copiers.specs.Assemblies.{IfCopies, CopiesAt, Does, may_link_in}
 use Rattle.blocking_world_copiers.specs.Assemblies.{may_copy_in, bytes_to_copy, bytes_to_come}

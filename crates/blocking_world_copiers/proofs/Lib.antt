@@ -11,7 +11,7 @@ pub mod Owners
 pub mod NextActs
 pub mod Endings
 pub mod Lawful
-pub mod Whole
+pub mod Legality
 pub mod Carried
 pub mod Begins
 pub mod Readings

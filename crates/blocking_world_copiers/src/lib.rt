@@ -6,6 +6,6 @@
 
 mod assembly;
 mod copier;
-pub mod kept;
+pub mod invariants;
 
 pub use assembly::Assembly;

@@ -55,7 +55,7 @@ use Rattle.blocking_world_holders.specs.Passages.{Goods, OfBytes, OfItems, throu
 use Rattle.blocking_world_holders.specs.Reads as reads
 use Rattle.blocking_world_holders.specs.SessionJobs.{new_job}
 use Rattle.blocking_world_holders.specs.Sessions.{Session, Work, goods_of, serial_of, drained}
-use Rattle.blocking_world_holders.specs.Sessions.{filled, reach, front, session_after_close}
+use Rattle.blocking_world_holders.specs.Sessions.{filled, reach, front_len, session_after_close}
 use Rattle.blocking_world_holders.specs.Sessions.{session_after_drain, session_after_fill}
 use Rattle.blocking_world_holders.specs.Sessions.{session_after_look, session_after_give_up}
 use Rattle.blocking_world_holders.specs.Sessions.{give_up_wakes, item_works, read_works}
@@ -221,7 +221,7 @@ reach_in most (Some session) = reach most session
 -- how many bytes the job of this session finds at the front of its pipe
 abbrev pub front_in : Option Session → ℕ
 front_in None = 0
-front_in (Some session) = front session
+front_in (Some session) = front_len session
 
 -- what a poll does that is over with this reply
 abbrev pub next_to_say : Option Told → OwnerNext

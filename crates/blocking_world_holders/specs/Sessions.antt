@@ -222,8 +222,8 @@ abbrev pub session_after_give_up : Session → Session
 session_after_give_up session = record session { slot = after_give_up session.slot }
 
 -- how many bytes a job finds at the front of the pipe: no more than a piece has
-abbrev pub front : Session → ℕ
-front session = min (length session.pipe.items) largest_piece
+abbrev pub front_len : Session → ℕ
+front_len session = min (length session.pipe.items) largest_piece
 
 -- what it finds there
 abbrev pub found_piece : Session → Met (List ℕ)

@@ -2,13 +2,13 @@
 //! and the slot in which it meets the job that works for it. Each says how far those jobs are.
 //!
 //! A holder knows no pool, no worker and no other holder. What was seen of it is its cut, and by its cut alone it keeps its laws.
-//! [`Task`] and [`Owner`] say what each act does, and [`kept`] that their laws hold after it.
+//! [`Task`] and [`Owner`] say what each act does, and [`invariants`] that their laws hold after it.
 #![tactic(auto)]
 
 mod call;
+pub mod invariants;
 mod item;
 mod job;
-pub mod kept;
 mod op;
 mod owner;
 mod passage;

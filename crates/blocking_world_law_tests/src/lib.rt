@@ -5,7 +5,7 @@
 //! after a past that it accepts. (The pasts of the clauses `refuses_untold_job` it refuses already, since a parked job wasn't told;
 //! their moment is the wait of its owner.) Above each clause stand the texts of the trace's events. The pasts that several clauses
 //! share are in `blocking_world_laws/specs/Traces.antt`, and those with owners in `OwnerTraces.antt`; [`owners`] has the laws of owners.
-//! [`whole::refusals`] says that what one law refuses is in no legal trace. [`room`] alone is about no law: it says by the contracts of the
+//! [`legality::refusals`] says that what one law refuses is in no legal trace. [`room`] alone is about no law: it says by the contracts of the
 //! pool's calls how many jobs of a client run.
 #![tactic(auto)]
 
@@ -13,9 +13,9 @@ pub mod answers;
 pub mod copies;
 pub mod definitions;
 pub mod growth;
+pub mod legality;
 pub mod owners;
 pub mod room;
 pub mod steps;
 pub mod tasks;
 pub mod turns;
-pub mod whole;

@@ -3,6 +3,7 @@
 pub mod ends;
 pub mod item;
 pub mod jobs;
+pub mod legality;
 pub mod op;
 pub mod places;
 pub mod polls;
@@ -11,5 +12,4 @@ pub mod seek;
 pub mod steps;
 pub mod taking_back;
 pub mod wakes;
-pub mod whole;
 pub mod write;

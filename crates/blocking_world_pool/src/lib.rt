@@ -6,7 +6,7 @@
 
 mod crew;
 mod hand;
-pub mod kept;
+pub mod invariants;
 mod starts;
 mod ticket;
 mod tickets;

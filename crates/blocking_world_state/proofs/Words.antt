@@ -72,7 +72,8 @@ pub use Rattle.blocking_world_holders.specs.OwnerTies.{state_as, newest_note, Be
 pub use Rattle.blocking_world_holders.specs.OwnerTies.{ResultAs, seat_of, LastAs, OwnerAs}
 pub use Rattle.blocking_world_holders.specs.OwnerTies.{OwnersHold}
 pub use Rattle.blocking_world_holders.specs.Owners.{Owner, new_owner, capacity_of, number_in}
-pub use Rattle.blocking_world_holders.specs.Owners.{number_of, last_item, reply_as, is_resting, rests}
+pub use Rattle.blocking_world_holders.specs.Owners.{number_of, last_item, reply_as, is_resting}
+pub use Rattle.blocking_world_holders.specs.Owners.{rests}
 pub use Rattle.blocking_world_holders.specs.Owners.{is_gone, note_at, goes_on, front_in}
 pub use Rattle.blocking_world_holders.specs.Owners.{next_to_say, next_by, next_of, bytes_in}
 pub use Rattle.blocking_world_holders.specs.Owners.{after_ask, owner_after_ask, Did, looked_as}
@@ -99,7 +100,8 @@ pub use Rattle.blocking_world_holders.specs.Sessions.{filled, found_room, sessio
 pub use Rattle.blocking_world_holders.specs.Sessions.{found_put, session_after_put, fits_in}
 pub use Rattle.blocking_world_holders.specs.Sessions.{closing_wakes, finish_wakes}
 pub use Rattle.blocking_world_holders.specs.Sessions.{session_after_job_close, session_after_finish}
-pub use Rattle.blocking_world_holders.specs.Sessions.{front, found_piece, session_after_peek, holds}
+pub use Rattle.blocking_world_holders.specs.Sessions.{front_len, found_piece, session_after_peek}
+pub use Rattle.blocking_world_holders.specs.Sessions.{holds}
 pub use Rattle.blocking_world_holders.specs.Sessions.{session_after_consume, Work, read_at_put}
 pub use Rattle.blocking_world_holders.specs.Sessions.{read_works, write_consumes, write_works}
 pub use Rattle.blocking_world_holders.specs.Sessions.{found_send, session_after_send}

@@ -4,4 +4,4 @@ pub mod OwnActs
 pub mod Steps
 pub mod Wakes
 pub mod OwnerWakes
-pub mod Whole
+pub mod Legality

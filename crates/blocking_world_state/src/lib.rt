@@ -5,7 +5,7 @@
 //! for whoever keeps it.
 #![tactic(auto)]
 
-pub mod kept;
+pub mod invariants;
 mod parts;
 mod row;
 

@@ -524,7 +524,7 @@ impl Parts {
             return 0;
         };
         match self.owners.get(place) {
-            Some(owner) => owner.front(),
+            Some(owner) => owner.front_len(),
             None => 0,
         }
     }

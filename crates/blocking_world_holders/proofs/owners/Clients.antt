@@ -19,7 +19,8 @@ use Rattle.blocking_world_holders.proofs.Words.{read_as, read_in, read_next, rec
 use Rattle.blocking_world_holders.proofs.Words.{reply_as, reply_did, seek_as, seek_in, seek_next}
 use Rattle.blocking_world_holders.proofs.Words.{seek_works, session_after_find, session_after_look}
 use Rattle.blocking_world_holders.proofs.Words.{item_as, item_in, item_works, through}
-use Rattle.blocking_world_holders.proofs.Words.{read_works, worked_by, write_as, write_in, write_next}
+use Rattle.blocking_world_holders.proofs.Words.{read_works, worked_by, write_as, write_in}
+use Rattle.blocking_world_holders.proofs.Words.{write_next}
 use Rattle.blocking_world_holders.proofs.Words.{write_works}
 use Rattle.blocking_core.specs.Pipes.{Pipe, empty_pipe}
 use Rattle.blocking_world_holders.specs.Owners.{after_ask, after_begin, capacity_asked, did_at}

@@ -13,7 +13,8 @@ use Rattle.blocking_world_holders.proofs.Words.{is_nothing, is_of_pool, is_makin
 use Rattle.blocking_world_holders.proofs.Words.{Begins, Delivers, OwnerStep, DoesWork as Works}
 use Rattle.blocking_world_holders.proofs.Words.{act_in, act_of, act_of_work, delivered, Did, Owner}
 use Rattle.blocking_world_holders.proofs.Words.{Worked, awaited_as, did, did_by, did_in, drain_did}
-use Rattle.blocking_world_holders.proofs.Words.{fill_did, fill_did_in, find_did, last_item, look_did}
+use Rattle.blocking_world_holders.proofs.Words.{fill_did, fill_did_in, find_did, last_item}
+use Rattle.blocking_world_holders.proofs.Words.{look_did}
 use Rattle.blocking_world_holders.proofs.Words.{looked_as, note_at, op_as, op_in, read_as}
 use Rattle.blocking_world_holders.proofs.Words.{read_in, receive_did, reply_as, reply_did, seek_as}
 use Rattle.blocking_world_holders.proofs.Words.{seek_in, item_as, item_in, worked, worked_by}
@@ -121,7 +122,8 @@ plain_put n _ = assumption
 
 plain_read_work : (a : ReadAction) (p : ReadProgress) (s : Session) (work : Work ReadProgress)
     → read_works a p s ≡ Some work → IsPlain [] work.act
-plain_read_work ReadAction.FindRoom p s work e = moved PlainWork _ work e (plain_room (found_room s))
+plain_read_work ReadAction.FindRoom p s work e =
+    moved PlainWork _ work e (plain_room (found_room s))
 plain_read_work (ReadAction.Put count) p s work e = at (fits_in p.piece s) e
   where
     at : (b : Bool) → (if b then Some (read_at_put (found_put p.piece s) p s) else None) ≡ Some work

@@ -359,7 +359,8 @@ module _ (bytes client : ℕ) (asked : Option HandleCall) (here : OwnerStage) (h
     where
       idle : (s : Session) (a : ReadAction) → is_over (read_action_as p.piece a) ≡ true
           → through OfBytes s.goods (read_works a p s) ≡ None
-      idle s ReadAction.Done over = through_none OfBytes s.goods (read_works ReadAction.Done p s) refl
+      idle s ReadAction.Done over =
+          through_none OfBytes s.goods (read_works ReadAction.Done p s) refl
       idle s _ over = absurd (cc)
 
       there : (a : ReadAction) → read_next p.core ≡ a → (a ≡ ReadAction.Deliver → ⊥)

@@ -53,11 +53,11 @@ impl Owner {
     }
 
     /// How many bytes a job of its session finds that looks at the front of the pipe.
-    pub fn front(&self) -> usize
+    pub fn front_len(&self) -> usize
         ensures { result ≡ front_in self.now.session }
     {
         match &self.session {
-            Some(session) => session.front(),
+            Some(session) => session.front_len(),
             None => 0,
         }
     }

@@ -25,7 +25,7 @@ impl Session {
     ghost use Rattle.std.specs.Prelude.{IfOk, OnErr};
     ghost use Rattle.blocking_core.specs.Writes.{write_next};
     ghost use Rattle.blocking_world_holders.specs.Passages.{OfBytes, through, is_piped};
-    ghost use Rattle.blocking_world_holders.specs.Sessions.{filled, session_after_fill, front, found_piece, holds, write_at_peek, write_consumes, write_closes, write_finishes, write_works, IsWork};
+    ghost use Rattle.blocking_world_holders.specs.Sessions.{filled, session_after_fill, front_len, found_piece, holds, write_at_peek, write_consumes, write_closes, write_finishes, write_works, IsWork};
     ghost use Rattle.blocking_world_holders.specs.Owners.{entered_as};
 
     /// The owner fills the pipe with the first of these bytes, as many as there is room for.
@@ -50,8 +50,8 @@ impl Session {
     }
 
     /// How many bytes a job finds at the front of the pipe.
-    pub(crate) fn front(&self) -> usize
-        ensures { result ≡ front self.now }
+    pub(crate) fn front_len(&self) -> usize
+        ensures { result ≡ front_len self.now }
     {
         self.passage.len().min(PIECE)
     }
@@ -66,7 +66,7 @@ impl Session {
         if self.passage.len() == 0 {
             return Ok(self.find_no_piece(job));
         }
-        let mut room = vec![in alloc; 0u8; self.front()]?;
+        let mut room = vec![in alloc; 0u8; self.front_len()]?;
         let Passage::Bytes(pipe) = &mut self.passage else {
             unreachable!()
         };

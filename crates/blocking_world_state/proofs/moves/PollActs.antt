@@ -5,7 +5,8 @@ use Rattle.std.proofs.Common.{None, arith}
 use Rattle.blocking_world_state.proofs.Types.{Fault, OwnerAction, Act, Reply as Told, HandleCall}
 use Rattle.blocking_world_state.proofs.Types.{OwnerStage}
 use Rattle.blocking_world_state.proofs.Words.{OwnerMachine, owner_next, Content, Empty, Full}
-use Rattle.blocking_world_state.proofs.Words.{Abandoned, Owner, last_item, reply_as, next_by, next_of}
+use Rattle.blocking_world_state.proofs.Words.{Abandoned, Owner, last_item, reply_as, next_by}
+use Rattle.blocking_world_state.proofs.Words.{next_of}
 use Rattle.blocking_world_state.proofs.Words.{Did, looked_as, awaited_as, close_did, drain_did}
 use Rattle.blocking_world_state.proofs.Words.{receive_did, fill_did, fill_did_in, drop_did}
 use Rattle.blocking_world_state.proofs.Words.{stage_after_reply, look_did, find_did, reply_did}

@@ -299,5 +299,5 @@ front_found (x ∷ xs) is_open found is =
     omega (arith, count)
 
 pub carried_at : (job : SessionJob) (s : Session) (act : SessionAct) → Fits act job s
-    → length (bytes_of (seen act)) ≤ front s
+    → length (bytes_of (seen act)) ≤ front_len s
 carried_at job s act fits = grind (arith, front_found)

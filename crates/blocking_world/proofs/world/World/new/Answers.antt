@@ -1,7 +1,7 @@
 use Rattle.std.proofs.Common.{option_map, reverse, subst, sym}
 use Rattle.blocking_pool.specs.Limits.{limit_of_setting}
 use Rattle.blocking_world_copiers.specs.Ties.{IsLawful}
-use Rattle.blocking_world_state.proofs.laws.Whole.{positive_limit}
+use Rattle.blocking_world_state.proofs.laws.Legality.{positive_limit}
 use Rattle.blocking_world_copiers.proofs.Begins.{begun}
 use Rattle.blocking_world.proofs.world.World.new.Goals as goal
 

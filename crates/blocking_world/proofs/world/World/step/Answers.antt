@@ -9,7 +9,7 @@ use Rattle.blocking_world_state.specs.Carried.{bytes_of}
 use Rattle.blocking_world_copiers.specs.Assemblies.{Does}
 use Rattle.blocking_world_copiers.specs.Ties.{IsLawful}
 use Rattle.blocking_world_copiers.proofs.Carried.{does_carry}
-use Rattle.blocking_world_copiers.proofs.Whole.{does_lawful, does_setting}
+use Rattle.blocking_world_copiers.proofs.Legality.{does_lawful, does_setting}
 use Rattle.blocking_world.proofs.world.World.step.Goals as goal
 
 -- what fits stands at the end

@@ -39,7 +39,7 @@ returns-clause-ok c =
     let whole : length c.in_ok-room.room.items ≡ c.in_ok-room.room.len =
     sym c.in_ok-room.room.ok.0 in
     let many : c.in_ok-room.room.len ≡ min (length pipe.items) 65536 =
-    c.in_ok-room.ensures.len ∙ c.front.ensures ∙ ap (λ n. min n 65536) (sym inner) in
+    c.in_ok-room.ensures.len ∙ c.front_len.ensures ∙ ap (λ n. min n 65536) (sym inner) in
     let is_room = ap (λ (l : List ℕ). length l) c.as_mut_slice.ensures.value ∙ whole in
     let met = found pipe.items c.as_mut_slice.result.now c.peek_or_seat.new.out pipe.is_owner_open
     c.in-Some._all_of_it (is_room ∙ many) e.0 e.2 e.4 in

@@ -1,6 +1,0 @@
--- The law of each owner says so.
-use Rattle.blocking_world_laws.proofs.WrittenBytes.{all_write_behind}
-use Rattle.blocking_world_laws.proofs.laws.whole.writing_behind.Goals as goal
-
-pub returns : goal.returns
-returns c = all_write_behind
