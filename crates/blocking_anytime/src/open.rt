@@ -175,6 +175,14 @@ impl<T: Drop, I: Drop, J: Job, H: Runtime> Open<T, I, J, H> {
     /// ahead is lost, what is to be written is written and flushed, and its fault isn't reported.
     ///
     /// A poll that waits has registered, and is polled again.
+    ///
+    /// ```rust
+    /// match self.reader.poll_idle(cx) {
+    ///     Poll::Pending => Poll::Pending,
+    ///     // (no session is under way now)
+    ///     Poll::Ready(()) => Poll::Ready(()),
+    /// }
+    /// ```
     pub fn poll_idle(&mut self, cx: &mut Context<'_>) -> Poll<()>
         ensures follows { Follows GetMutCall self.old.owner.place (reply_of_get result) self.new.owner.place }
         ensures idle { IfReady result (λ _. IsAt Idle self.new.owner.place) }
@@ -187,6 +195,12 @@ impl<T: Drop, I: Drop, J: Job, H: Runtime> Open<T, I, J, H> {
     }
 
     /// The handle, where it is with its owner. No session is under way then, and none begins while it is lent.
+    ///
+    /// ```rust
+    /// if let Some(bytes) = self.reader.handle_mut() {
+    ///     bytes.set_position(2);
+    /// }
+    /// ```
     pub fn handle_mut(&mut self) -> Option<&mut T>
         ensures* lends { sem 𝓛 (lends_open_handle T.row I.row J.row H.row J.Job self.entry result) }
         ensures handle { option_copied_mut result ≡ handle_in self.old.owner.place }

@@ -112,6 +112,10 @@ impl<A: AsyncRead + Drop, B: AsyncWrite + Drop> Copier<A, B> {
     }
 
     /// How many bytes were written so far, or the greatest number of 64 bits where there were more.
+    ///
+    /// ```rust
+    /// let _ = eprintln!(rt; "{} bytes", copy.copied());
+    /// ```
     pub fn copied(&self) -> u64
         ensures { result ≡ self.now.core.copied }
     {
@@ -119,6 +123,12 @@ impl<A: AsyncRead + Drop, B: AsyncWrite + Drop> Copier<A, B> {
     }
 
     /// Whether it was ready.
+    ///
+    /// ```rust
+    /// if self.copy.is_done() {
+    ///     return Poll::Ready(());
+    /// }
+    /// ```
     pub fn is_done(&self) -> bool
         ensures { result ≡ is_over self.now.core.next }
     {

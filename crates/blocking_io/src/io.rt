@@ -1,5 +1,5 @@
 //! What polls of a lent handle of the system ask and answer.
-ghost use Rattle.std.specs.Prelude.{◌≡◌, ◌≤◌, ◌↔◌, length, IfOk};
+ghost use Rattle.std.specs.Prelude.{◌≡◌, ◌≤◌, ◌↔◌, length, IfErr, IfOk};
 ghost use Rattle.futures.specs.Poll.{IfReady, OnPending};
 ghost use Rattle.futures.specs.Task.{IsArmed, Keeps};
 ghost use Rattle.blocking_io.specs.Polled.{ReaderPoll, WriterPoll, OfFlush, OfRead, OfWrite, with_bytes};
@@ -108,11 +108,12 @@ pub trait AsyncWrite {
         ensures armed { OnPending result (IsArmed cx.new) }
         ensures kept { Keeps cx.old cx.new };
 
-    /// Flushes, and then closes. After a fault it is open still, and what was closed is closed again without one.
+    /// Flushes, and then closes. What was open and met a fault is open still, and may be closed again.
     ///
     /// A poll that waits has registered, and is polled again.
     fn poll_close(&mut self, cx: &mut Context<'_>) -> Poll<Result<(), IoFault>>
         ensures closed { IfReady result (λ r. IfOk r (λ _. closed self.new)) }
+        ensures open { (closed self.old → ⊥) → IfReady result (λ r. IfErr r (λ _. closed self.new → ⊥)) }
         ensures armed { OnPending result (IsArmed cx.new) }
         ensures kept { Keeps cx.old cx.new };
 }
@@ -127,6 +128,12 @@ pub trait AsyncSeek {
     /// refusal says that moving couldn't begin. It may be asked again after both.
     ///
     /// A poll that waits has registered, and is polled again.
+    ///
+    /// ```rust
+    /// fn poll(&mut self, cx: &mut Context<'_>) -> Poll<Result<u64, IoFault>> {
+    ///     self.log.poll_seek(cx, SeekFrom::End(0))
+    /// }
+    /// ```
     fn poll_seek(&mut self, cx: &mut Context<'_>, to: SeekFrom) -> Poll<Result<u64, IoFault>>
         requires { closed self.old → ⊥ }
         ensures open { closed self.new → ⊥ }

@@ -249,7 +249,7 @@ pub struct Close<'a, A> {
 }
 
 impl<'a, A: AsyncWrite> Future for Close<'a, A> {
-    ghost use Rattle.std.specs.Prelude.{IfOk};
+    ghost use Rattle.std.specs.Prelude.{IfErr, IfOk};
     ghost use Rattle.futures.specs.Poll.{IfReady, OnPending};
     ghost use Rattle.futures.specs.Task.{IsArmed, Keeps};
 
@@ -257,6 +257,7 @@ impl<'a, A: AsyncWrite> Future for Close<'a, A> {
 
     fn poll(&mut self, cx: &mut Context<'_>) -> Poll<Result<(), IoFault>>
         ensures closed { IfReady result (λ r. IfOk r (λ _. A.closed self.new.writer.now)) }
+        ensures open { (A.closed self.old.writer.now → ⊥) → IfReady result (λ r. IfErr r (λ _. A.closed self.new.writer.now → ⊥)) }
         ensures armed { OnPending result (IsArmed cx.new) }
         ensures kept { Keeps cx.old cx.new }
     {

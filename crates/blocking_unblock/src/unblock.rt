@@ -666,6 +666,7 @@ impl<T: Write + Drop, I: Drop, J: Job + Carries<WriteJob<T, H>>, H: Runtime> Asy
         ensures follows { Follows CloseCall self.old.place (reply_of_done result) self.new.place }
         ensures closed { IfReady result (λ r. IfOk r (λ _. IsClosed self.new.place)) }
         ensures fault { IfReady result (λ r. IfErr r (λ _. IsAt Idle self.new.place)) }
+        ensures open { (IsClosed self.old.place → ⊥) → IfReady result (λ r. IfErr r (λ _. IsClosed self.new.place → ⊥)) }
         ensures rest { (self.new.capacity ≡ self.old.capacity) × (self.new.executor ≡ self.old.executor) }
         ensures armed { OnPending result (IsArmed cx.new) }
         ensures kept { Keeps cx.old cx.new }
