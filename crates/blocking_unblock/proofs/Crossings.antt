@@ -32,7 +32,8 @@ use Rattle.blocking_unblock.specs.Owners.{crossed_before, goes_on}
 use Rattle.blocking_unblock.specs.Polls.{Kept, Starts, FitsAction, Stands, IsGoing, Does, Crossing}
 use Rattle.blocking_unblock.specs.Polls.{SawEnd}
 use Rattle.blocking_unblock.specs.declared.handle_state.HandleState.{HandleState}
-use Rattle.blocking_unblock.proofs.Rounds.{told, got_is, not_back}
+use Rattle.blocking_unblock.proofs.Rounds.{told}
+use Rattle.blocking_unblock.proofs.Standing.{got_is, not_back}
 
 module _ {T I H : Type 0} (E : Type 0) (place : HandleState T I H) (before : ℕ) where
   -- a reply of no bytes says nothing of the pipe

@@ -1,5 +1,7 @@
 mod Crossings
+mod FirstRounds
 mod Loans
 mod Replies
 mod Rounds
+mod Standing
 mod Quick

@@ -2,10 +2,10 @@ use Rattle.std.proofs.Common.{◌∙◌, sym, refl, subst, []}
 use Rattle.blocking_core.specs.declared.unblock.PollCall.{PollCall}
 use Rattle.blocking_unblock.specs.Polls.{KeepsOpen}
 use Rattle.blocking_unblock.proofs.Crossings.{first_crosses, reply_crossed}
-use Rattle.blocking_unblock.proofs.Rounds.{at_once_kept, closes_only, first_brought, first_kept}
-use Rattle.blocking_unblock.proofs.Rounds.{first_stands, none_going, open_on}
-use Rattle.blocking_unblock.proofs.Rounds.{reaches_on, refused_by}
-use Rattle.blocking_unblock.proofs.Rounds.{same_open, stays_closed}
+use Rattle.blocking_unblock.proofs.FirstRounds.{at_once_kept, closes_only, first_brought}
+use Rattle.blocking_unblock.proofs.FirstRounds.{first_kept, first_stands, none_going, refused_by}
+use Rattle.blocking_unblock.proofs.FirstRounds.{stays_closed}
+use Rattle.blocking_unblock.proofs.Standing.{open_on, reaches_on, same_open}
 use Rattle.blocking_unblock.proofs.unblock.Unblock.poll.Goals as goal
 
 pub loop-init : goal.loop-init
