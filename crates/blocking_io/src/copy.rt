@@ -111,7 +111,7 @@ impl<A: AsyncRead + Drop, B: AsyncWrite + Drop> Copier<A, B> {
         })
     }
 
-    /// How many bytes were written so far, or the greatest number of 64 bits where there were more.
+    /// How many bytes the writer took so far, or the greatest number of 64 bits where there were more.
     ///
     /// ```rust
     /// let _ = eprintln!(rt; "{} bytes", copy.copied());

@@ -46,6 +46,7 @@ pub trait AsyncReadExt: AsyncRead {
         requires { Self.closed self.old → ⊥ }
         ensures reader { result.reader.ghost_name ≡ self.entry.ghost_name }
         ensures open { Self.closed result.reader.now → ⊥ }
+        ensures room { length result.buf.now ≡ length buf.old }
         ensures begins { result.filled ≡ 0 }
     {
         ReadExact {
@@ -70,6 +71,7 @@ pub trait AsyncReadExt: AsyncRead {
         ensures reader { result.reader.ghost_name ≡ self.entry.ghost_name }
         ensures open { Self.closed result.reader.now → ⊥ }
         ensures begins { result.start ≤ vec_len result.out.now }
+        ensures out { (result.start ≡ vec_len out.old) × (result.out.now ≡ out.old) }
     {
         let start = out.len();
         ReadToEnd {

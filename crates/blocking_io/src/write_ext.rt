@@ -47,7 +47,7 @@ pub trait AsyncWriteExt: AsyncWrite {
         ensures writer { result.writer.ghost_name ≡ self.entry.ghost_name }
         ensures open { Self.closed result.writer.now → ⊥ }
         ensures all { result.bytes.now ≡ bytes.now }
-        ensures begins { result.taken ≡ 0 }
+        ensures begins { (result.taken ≡ 0) × (result.has_failed ≡ false) }
     {
         WriteAll {
             writer: self,
