@@ -2,7 +2,7 @@
 use blocking::Call;
 use std::fs::{Metadata, OpenOptions, ReadDir};
 use std::io::ErrorKind;
-use std::os::unix::fs::MetadataExt;
+use std::os::unix::fs::{MetadataExt, OpenOptionsExt, PermissionsExt};
 use std::sync::Arc;
 use std::{fs, io};
 
@@ -44,6 +44,19 @@ impl OpenBoth {
             Err(_) => false,
         }
     }
+
+    // Opens what is to be the copy, which is empty then. One that isn't there is made with the source's permissions at once, so that at no
+    // moment more may read it.
+    fn create(&self, source: &Metadata) -> io::Result<fs::File> {
+        let mut how = OpenOptions::new();
+        how.write(true).create(true).truncate(true);
+        how.mode(source.permissions().mode());
+        let copy = how.open(&self.system, self.to.as_str())?;
+        if copy.metadata()?.is_file() {
+            copy.set_permissions(source.permissions())?;
+        }
+        Ok(copy)
+    }
 }
 
 impl Call for OpenBoth {
@@ -55,14 +68,15 @@ impl Call for OpenBoth {
         let alloc = self.system.alloc();
         let from = fs::File::open(&self.system, self.from.as_str())?;
         let source = from.metadata()?;
+        if !source.is_file() {
+            let message = "what is to be copied isn't a file";
+            return Err(io::Error::new(ErrorKind::InvalidInput, message));
+        }
         if self.is_same(&source) {
             let message = "a file isn't copied to itself";
             return Err(io::Error::new(ErrorKind::InvalidInput, message));
         }
-        let to = fs::File::create(&self.system, self.to.as_str())?;
-        if to.metadata()?.is_file() {
-            to.set_permissions(source.permissions())?;
-        }
+        let to = self.create(&source)?;
         Ok((Arc::new(alloc, from)?, Arc::new(alloc, to)?))
     }
 }

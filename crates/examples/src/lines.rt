@@ -63,6 +63,10 @@ fn show_lines<T: Read + Drop + Send + 'static, H: Host>(rt: H, reader: T) -> Res
         }
         line.take(&rt, &piece[..count])?;
     }
+    // (a text whose last line has an end of its own has no more)
+    if line.bytes.is_empty() {
+        return Ok(());
+    }
     line.end(&rt)
 }
 

@@ -39,7 +39,7 @@ impl Call for ReadText {
 type Readers = Executor<CallJob<ReadText, HostRuntime>, HostRuntime>;
 
 fn main(rt: HostRuntime) -> Result<()> {
-    // At most eight threads, and none before there is a call.
+    // At most eight workers, and none before there is a call.
     let executor: Readers = Executor::new(rt, Some("8"))?;
     let path = "/proc/sys/kernel/ostype";
     let task = unblock(&executor, ReadText { rt, path })?;

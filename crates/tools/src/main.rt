@@ -51,10 +51,8 @@ fn run<H: Host + Print + Eprint>(rt: H, system: HostRuntime) -> Result<bool> {
                 .context("the log")?;
             logd::log(rt, system.stdin(), log)?;
         }
-        ("cp", [from, to]) => copy(rt, system, (from, to), false)?,
-        ("cp", [option, from, to]) if option.as_str() == "--sync" => {
-            copy(rt, system, (from, to), true)?;
-        }
+        ("cp", [from, to]) => copy(rt, system, from, to, false)?,
+        ("cp", [flag, from, to]) if flag.as_str() == "--sync" => copy(rt, system, from, to, true)?,
         _ => return Ok(false),
     }
     Ok(true)
@@ -64,16 +62,18 @@ fn run<H: Host + Print + Eprint>(rt: H, system: HostRuntime) -> Result<bool> {
 fn copy<H: Host + Eprint>(
     rt: H,
     system: HostRuntime,
-    (from, to): (&String, &String),
+    from: &str,
+    to: &str,
     is_synced: bool,
 ) -> Result<()> {
-    let from = File::open(&system, from.as_str()).context("what is to be copied")?;
-    if let Ok(target) = fs::metadata(&system, to.as_str()) {
-        let source = from.metadata()?;
+    let from = File::open(&system, from).context("what is to be copied")?;
+    let source = from.metadata()?;
+    ensure!(!source.is_dir(), "what is to be copied: it is a folder");
+    if let Ok(target) = fs::metadata(&system, to) {
         let is_same = (source.dev(), source.ino()) == (target.dev(), target.ino());
         ensure!(!is_same, "the copy: it is the same file");
     }
-    let to = File::create(&system, to.as_str()).context("the copy")?;
+    let to = File::create(&system, to).context("the copy")?;
     let copied = cp::copy(rt, from, to, is_synced)?;
     eprintln!(rt; "{copied} bytes copied")?;
     Ok(())
