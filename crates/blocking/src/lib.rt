@@ -2,12 +2,14 @@
 //!
 //! An [`Executor`] has a queue of jobs, and workers that run them, each on a thread of its own. A queued job is ready, unless a limit for
 //! each client is set and its client has as many running. Where a job enters or is taken while more are ready than five times the idle
-//! workers, another worker is started, up to the limit. An idle worker stops where it found nothing to do for half a second, or where there
-//! are more workers than the limit.
+//! workers, another worker is started, up to the limit. An idle worker stops where nothing is queued when it has waited for half a second,
+//! or where there are more workers than the limit. A job keeps its worker while it has something to do. So at limit 1 a reader that never
+//! has to wait lets no other job run.
 //!
 //! The limit is 500, or what a text says that the program hands in, such as the variable [`MAX_THREADS_ENV`] holds ([`max_threads`]); no
 //! environment is read here. A thread that can't be had lowers it to the workers there are, until [`set_max_blocking_threads`] sets another.
-//! Nothing here panics: where there is no memory or no worker a call answers so, and a call or a job that it refuses comes back.
+//! Nothing here panics: where there is no memory or no worker a call answers so, and a call or a job that it refuses comes back. A job that is
+//! woken is never refused. Where no worker is left then and no thread can be had, it stays queued until another call brings one.
 //!
 //! - **A call**: a type that implements [`Call`] says what to do, and [`unblock`] queues it at once, before any poll. Its [`Task`] is a
 //!   future of the answer. A task that is dropped cancels the call, unless that is being made.

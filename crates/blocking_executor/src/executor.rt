@@ -254,10 +254,11 @@ impl<J: Job, H: Runtime> Executor<J, H> {
     }
 
     /// Puts the parked jobs that bear a mark back into the queue, where they are handed out to be dropped, and answers how
-    /// many they were. An idle worker does so too after each wait that timed out.
+    /// many they were. An idle worker does so too after each wait that timed out; where no worker is left, nobody does.
     ///
     /// However many they are, one idle worker is notified, and drops them one after another. The others sleep on until another
-    /// call notifies them, or until their own wait times out, after half a second at most.
+    /// call notifies them, or until their own wait times out, after half a second at most. Where the pool grows for these jobs, all
+    /// are notified.
     ///
     /// ```rust
     /// // (here `is_gone` is what the job's `abandoned` answers)

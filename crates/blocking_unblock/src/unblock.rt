@@ -38,6 +38,9 @@ use std::{fmt, io, mem};
 /// it first. What a queued one had to write is lost. One that is about to wait, and was woken by an earlier call, counts as queued. A seek
 /// or an operation under way is made.
 ///
+/// A job that waits holds no worker. Where none is left when it is woken, and no thread can be had for one, it stays queued and its owner
+/// waits: until a thread can be had and a call adds a job to the pool, or wakes another that waits. A session that begins is refused then.
+///
 /// The memory of a session that read or wrote is kept for the next one of its kind. It is that of its pipe and its pieces, of which no more
 /// was touched than was used, but for one piece of a reader, which is cleared first. It is given back where a session of another kind begins
 /// or one is refused, and with the owner: by [`Unblock::into_inner`], a close, or a drop.
@@ -199,7 +202,8 @@ impl<T: Drop, I: Drop, J: Job, H: Runtime> Unblock<T, I, J, H> {
     /// A future of what an operation on the handle gives, which a job makes. A session that is under way is stopped first, as for the handle
     /// itself. Where no session can begin the future answers why, with the operation. Until it was ready it may be polled.
     ///
-    /// One that is dropped gives the result up: the operation is made all the same, once its session began.
+    /// One that is dropped gives the result up. Once its session began the operation is made all the same, but where its owner is dropped
+    /// too, before a worker took it.
     ///
     /// Here `SyncAll` is the operation of the example at [`CallOn`], whose result may be an error: hence the third `?`.
     ///

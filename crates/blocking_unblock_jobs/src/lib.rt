@@ -1,4 +1,7 @@
 //! The jobs to which a handle is lent, each with the pipe that it feeds or empties, and the way on which the handle comes back.
+//!
+//! A job type that carries one of these (`Carries`) has to step it, to answer for its mark, and to drop it as it is itself. Its owner counts
+//! on that: one whose job is dropped unmarked may wait without end. `Jobs` of `blocking` is such a type.
 #![tactic(auto)]
 
 mod flush;
