@@ -81,6 +81,7 @@ impl<T: Drop, I: Drop, J: Job, H: Runtime> Open<T, I, J, H> {
     /// The owner of a handle, whose sessions have pipes for 8,388,608 bytes or 8192 items, as [`Unblock::new`] makes it.
     pub fn new(executor: Executor<J, H>, handle: T) -> Self
         ensures place { result.owner.place ≡ AtOwner handle }
+        ensures executor { result.owner.executor ≡ executor }
         ensures bytes { result.owner.capacity.bytes ≡ 8388608 }
         ensures items { result.owner.capacity.items ≡ 8192 }
     {
@@ -93,6 +94,7 @@ impl<T: Drop, I: Drop, J: Job, H: Runtime> Open<T, I, J, H> {
     pub fn with_capacity(capacity: usize, executor: Executor<J, H>, handle: T) -> Self
         requires { 0 < capacity }
         ensures place { result.owner.place ≡ AtOwner handle }
+        ensures executor { result.owner.executor ≡ executor }
         ensures bytes { result.owner.capacity.bytes ≡ capacity }
         ensures items { result.owner.capacity.items ≡ capacity }
     {

@@ -1,5 +1,5 @@
 //! A change of an open file.
-ghost use Rattle.std.specs.Prelude.{◌≡◌, ◌↔◌, Some, Ok, IfOk, IfSome, IsErr, IsNone, IsSome, IsSomeAnd};
+ghost use Rattle.std.specs.Prelude.{◌≡◌, ◌↔◌, Some, Ok, IfOk, IfErr, IfSome, IsErr, IsNone, IsSome, IsSomeAnd};
 ghost use Rattle.std.specs.Option.{ForSome};
 
 use crate::calls::{Change, Changes, Shared};
@@ -58,6 +58,7 @@ fn begin<H: Runtime, J: Job + Carries<CallJob<Change, H>>>(
     ensures asked { IfSome result.asked (λ asked. what ≡ Some (Ok asked.value.what)) }
     ensures answered { IsSome what → IsNone result.task → IsSomeAnd result.refused (λ answer. IsErr answer) }
     ensures refused { IfSome result.refused (λ answer. IsErr answer) }
+    ensures client { IfSome result.task (λ task. task.job.client ≡ files.now.executor.client) }
 {
     match what {
         Some(what) => files.change(what),
@@ -72,6 +73,7 @@ impl<'a, H: Runtime, J: Job + Carries<CallJob<Change, H>> + Carries<WriteJob<Sha
     ghost use Rattle.futures.specs.declared.task.Poll.{Poll};
     ghost use Rattle.blocking_core.specs.declared.unblock.PollCall.TheVariants.{Flush as FlushCall};
     ghost use Rattle.blocking_unblock.specs.Owners.{Follows, reply_of_done};
+    ghost use Rattle.blocking_core.specs.Faults.{IsToldAs};
     ghost use Rattle.blocking_files.specs.Told.{IsFlushed};
 
     type Output = io::Result<()>;
@@ -84,7 +86,8 @@ impl<'a, H: Runtime, J: Job + Carries<CallJob<Change, H>> + Carries<WriteJob<Sha
         ensures flushed { IsNone self.old.task → (flushed : _)
             × Follows FlushCall self.old.file.now.owner.owner.place (reply_of_done flushed) self.new.file.now.owner.owner.place
             × IfSome self.new.task (λ task. IsSome task.asked → IsFlushed flushed)
-            × (IsNone self.new.task → flushed ≡ Poll.Pending) }
+            × (IsNone self.new.task → flushed ≡ Poll.Pending)
+            × IfReady flushed (λ f. IfErr f (λ why. IfReady result (λ r. IfErr r (IsToldAs why)))) }
         ensures begun { OnPending result (IsNone self.old.task → IfSome self.new.task (λ change. IsSome change.task)) }
         ensures made { IfReady result (λ r. IfOk r (λ _. IsSomeAnd self.new.task (λ change. IsSome change.asked))) }
         ensures refused { IfSome self.old.task (λ change. IfSome change.refused (λ answer. result ≡ Poll.Ready answer)) }

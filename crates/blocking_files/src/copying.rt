@@ -52,6 +52,8 @@ impl<H: Runtime, J: Job + Carries<CallJob<OpenBoth, H>>> Copying<H, J> {
         ensures asked { IfOk call (λ call. IsSomeAnd result.task.asked (λ asked. asked.value ≡ call)) }
         ensures refused { IfErr call (λ _. IsNone result.task.asked) }
         ensures answered { IsNone result.task.task → IsSomeAnd result.task.refused (λ answer. IsErr answer) }
+        ensures client { IfSome result.task.task (λ task. task.job.client ≡ files.now.executor.client) }
+        ensures share { IfSome result.files (λ share. share.executor.client ≡ files.now.executor.client) }
     {
         Copying {
             task: files.begin(call),

@@ -44,7 +44,8 @@ impl<H: Runtime, J: Job> Entries<H, J> {
     ghost use Rattle.blocking_unblock.specs.declared.handle_state.HandleState.TheVariants.{Idle as AtOwner};
 
     fn new(files: &Files<H, J>, entries: Box<ReadDir>) -> Result<Entries<H, J>, AllocError>
-        ensures { IfOk result (λ listed. listed.owner.owner.place ≡ AtOwner entries) }
+        ensures place { IfOk result (λ listed. listed.owner.owner.place ≡ AtOwner entries) }
+        ensures client { IfOk result (λ listed. listed.owner.owner.executor.client ≡ files.now.executor.client) }
     {
         let executor = files.executor().try_clone()?;
         Ok(Entries {
@@ -108,7 +109,8 @@ fn entries_over<H: Runtime, J: Job>(
     files: &Option<Files<H, J>>,
     entries: Box<ReadDir>,
 ) -> io::Result<Entries<H, J>>
-    ensures { IfOk result (λ listed. IsAt Idle listed.owner.owner.place) }
+    ensures idle { IfOk result (λ listed. IsAt Idle listed.owner.owner.place) }
+    ensures client { IfSome files.now (λ files. IfOk result (λ listed. listed.owner.owner.executor.client ≡ files.executor.client)) }
 {
     match files {
         Some(files) => Ok(Entries::new(files, entries)?),
@@ -121,6 +123,8 @@ impl<H: Runtime, J: Job + Carries<CallJob<List, H>>> Listing<H, J> {
         ensures asked { IfOk call (λ call. IsSomeAnd result.task.asked (λ asked. asked.value ≡ call)) }
         ensures refused { IfErr call (λ _. IsNone result.task.asked) }
         ensures answered { IsNone result.task.task → IsSomeAnd result.task.refused (λ answer. IsErr answer) }
+        ensures client { IfSome result.task.task (λ task. task.job.client ≡ files.now.executor.client) }
+        ensures share { IfSome result.files (λ share. share.executor.client ≡ files.now.executor.client) }
     {
         Listing {
             task: files.begin(call),
@@ -141,6 +145,9 @@ impl<H: Runtime, J: Job> Future for Listing<H, J> {
 
     fn poll(&mut self, cx: &mut Context<'_>) -> Poll<io::Result<Entries<H, J>>>
         ensures idle { IfReady result (λ r. IfOk r (λ listed. IsAt Idle listed.owner.owner.place)) }
+        ensures client { IfSome self.old.files (λ files. IfReady result (λ r. IfOk r (λ listed.
+            listed.owner.owner.executor.client ≡ files.executor.client))) }
+        ensures files { self.new.files ≡ self.old.files }
         ensures refused { IfSome self.old.task.refused (λ answer. IfErr answer (λ why. result ≡ Poll.Ready (Err why))) }
         ensures behind { IsNone self.old.task.task → IsNone self.old.task.refused → result ≡ Poll.Pending }
         ensures taken { IfReady result (λ _. IsNone self.new.task.task × IsNone self.new.task.refused) }

@@ -43,12 +43,16 @@ pub struct File<H: Runtime, J: Job = FileJob<H>> {
 
 impl<H: Runtime, J: Job> File<H, J> {
     ghost use Rattle.blocking_core.specs.declared.unblock.State.TheVariants.{Idle};
+    ghost use Rattle.blocking_unblock.specs.declared.handle_state.HandleState.TheVariants.{Idle as AtOwner};
     ghost use Rattle.blocking_unblock.specs.Owners.{IsAt};
     ghost use Rattle.blocking_files.specs.Asked.{IsFileLook};
 
     pub(crate) fn new(files: &Files<H, J>, file: Shared) -> Result<File<H, J>, AllocError>
         ensures file { IfOk result (λ opened. opened.file ≡ file) }
         ensures idle { IfOk result (λ opened. IsAt Idle opened.owner.owner.place) }
+        ensures lent { IfOk result (λ opened. (lent : _) × (opened.owner.owner.place ≡ AtOwner lent) × (arc_value lent ≡ arc_value file)) }
+        ensures client { IfOk result (λ opened. (opened.owner.owner.executor.client ≡ files.now.executor.client)
+            × (opened.files.executor.client ≡ files.now.executor.client)) }
     {
         let lent = Arc::try_clone(&file)?;
         let files = files.try_clone()?;
@@ -75,6 +79,7 @@ impl<H: Runtime, J: Job> File<H, J> {
         J: Carries<CallJob<Look, H>>,
         ensures asked { IfSome result.asked (λ asked. IsFileLook (arc_value self.now.file) asked.value.what) }
         ensures answered { IsNone result.task → IsSomeAnd result.refused (λ answer. IsErr answer) }
+        ensures client { IfSome result.task (λ task. task.job.client ≡ self.now.files.executor.client) }
     {
         self.files
             .look(Arc::try_clone(&self.file).map(LookAt::File))

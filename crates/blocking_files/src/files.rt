@@ -109,6 +109,7 @@ impl<H: Runtime, J: Job> Files<H, J> {
         ensures asked { IfOk call (λ call. IsSomeAnd result.asked (λ asked. asked.value ≡ call)) }
         ensures refused { IfErr call (λ _. IsNone result.asked) }
         ensures answered { IsNone result.task → IsSomeAnd result.refused (λ answer. IsErr answer) }
+        ensures client { IfSome result.task (λ task. task.job.client ≡ self.now.executor.client) }
     {
         FileTask::begin(&self.executor, call)
     }
@@ -127,6 +128,8 @@ impl<H: Runtime, J: Job + Carries<CallJob<Open, H>>> Files<H, J> {
         ensures asked { IfSome result.task.asked (λ asked. IsPath (P.path_text path) asked.value.path
             × (asked.value.how ≡ with_read new_options true)) }
         ensures answered { IsNone result.task.task → IsSomeAnd result.task.refused (λ answer. IsErr answer) }
+        ensures client { IfSome result.task.task (λ task. task.job.client ≡ self.now.executor.client) }
+        ensures share { IfSome result.files (λ share. share.executor.client ≡ self.now.executor.client) }
     {
         let mut how = OpenOptions::new();
         how.read(true);
@@ -144,6 +147,8 @@ impl<H: Runtime, J: Job + Carries<CallJob<Open, H>>> Files<H, J> {
         ensures asked { IfSome result.task.asked (λ asked. IsPath (P.path_text path) asked.value.path
             × (asked.value.how ≡ with_truncate (with_create (with_write new_options true) true) true)) }
         ensures answered { IsNone result.task.task → IsSomeAnd result.task.refused (λ answer. IsErr answer) }
+        ensures client { IfSome result.task.task (λ task. task.job.client ≡ self.now.executor.client) }
+        ensures share { IfSome result.files (λ share. share.executor.client ≡ self.now.executor.client) }
     {
         let mut how = OpenOptions::new();
         how.write(true).create(true).truncate(true);
@@ -160,6 +165,8 @@ impl<H: Runtime, J: Job + Carries<CallJob<Open, H>>> Files<H, J> {
     pub fn open_with<P: AsPath>(&self, how: OpenOptions, path: P) -> Opening<H, J>
         ensures asked { IfSome result.task.asked (λ asked. IsPath (P.path_text path) asked.value.path × (asked.value.how ≡ how)) }
         ensures answered { IsNone result.task.task → IsSomeAnd result.task.refused (λ answer. IsErr answer) }
+        ensures client { IfSome result.task.task (λ task. task.job.client ≡ self.now.executor.client) }
+        ensures share { IfSome result.files (λ share. share.executor.client ≡ self.now.executor.client) }
     {
         let system = self.system;
         let call = self.text(&path).map(|path| Open { system, how, path });
@@ -179,6 +186,7 @@ impl<H: Runtime, J: Job> Files<H, J> {
         J: Carries<CallJob<ReadBytes, H>>,
         ensures asked { IfSome result.asked (λ asked. IsPath (P.path_text path) asked.value.path) }
         ensures answered { IsNone result.task → IsSomeAnd result.refused (λ answer. IsErr answer) }
+        ensures client { IfSome result.task (λ task. task.job.client ≡ self.now.executor.client) }
     {
         let system = self.system;
         self.begin(self.text(&path).map(|path| ReadBytes { system, path }))
@@ -194,6 +202,7 @@ impl<H: Runtime, J: Job> Files<H, J> {
         J: Carries<CallJob<ReadText, H>>,
         ensures asked { IfSome result.asked (λ asked. IsPath (P.path_text path) asked.value.path) }
         ensures answered { IsNone result.task → IsSomeAnd result.refused (λ answer. IsErr answer) }
+        ensures client { IfSome result.task (λ task. task.job.client ≡ self.now.executor.client) }
     {
         let system = self.system;
         self.begin(self.text(&path).map(|path| ReadText { system, path }))
@@ -206,6 +215,7 @@ impl<H: Runtime, J: Job + Carries<CallJob<Look, H>>> Files<H, J> {
         ensures asked { IfOk what (λ what. IsSomeAnd result.asked (λ asked. asked.value.what ≡ what)) }
         ensures refused { IfErr what (λ _. IsNone result.asked) }
         ensures answered { IsNone result.task → IsSomeAnd result.refused (λ answer. IsErr answer) }
+        ensures client { IfSome result.task (λ task. task.job.client ≡ self.now.executor.client) }
     {
         let system = self.system;
         self.begin(what.map(|what| Look { system, what }))
@@ -219,6 +229,7 @@ impl<H: Runtime, J: Job + Carries<CallJob<Look, H>>> Files<H, J> {
     pub fn metadata<P: AsPath>(&self, path: P) -> FileTask<Look, H>
         ensures asked { IfSome result.asked (λ asked. IsPathLook (P.path_text path) asked.value.what) }
         ensures answered { IsNone result.task → IsSomeAnd result.refused (λ answer. IsErr answer) }
+        ensures client { IfSome result.task (λ task. task.job.client ≡ self.now.executor.client) }
     {
         self.look(self.text(&path).map(LookAt::Path))
     }
@@ -231,6 +242,7 @@ impl<H: Runtime, J: Job + Carries<CallJob<Look, H>>> Files<H, J> {
     pub fn symlink_metadata<P: AsPath>(&self, path: P) -> FileTask<Look, H>
         ensures asked { IfSome result.asked (λ asked. IsLinkLook (P.path_text path) asked.value.what) }
         ensures answered { IsNone result.task → IsSomeAnd result.refused (λ answer. IsErr answer) }
+        ensures client { IfSome result.task (λ task. task.job.client ≡ self.now.executor.client) }
     {
         self.look(self.text(&path).map(LookAt::Link))
     }
@@ -242,6 +254,7 @@ impl<H: Runtime, J: Job + Carries<CallJob<Change, H>>> Files<H, J> {
         ensures asked { IfOk what (λ what. IsSomeAnd result.asked (λ asked. asked.value.what ≡ what)) }
         ensures refused { IfErr what (λ _. IsNone result.asked) }
         ensures answered { IsNone result.task → IsSomeAnd result.refused (λ answer. IsErr answer) }
+        ensures client { IfSome result.task (λ task. task.job.client ≡ self.now.executor.client) }
     {
         let system = self.system;
         self.begin(what.map(|what| Change { system, what }))
@@ -256,6 +269,7 @@ impl<H: Runtime, J: Job + Carries<CallJob<Change, H>>> Files<H, J> {
     pub fn write<P: AsPath, C: AsBytes + Drop>(&self, path: P, bytes: C) -> FileTask<Change, H>
         ensures asked { IfSome result.asked (λ asked. IsWrite (P.path_text path) (C.bytes bytes) asked.value.what) }
         ensures answered { IsNone result.task → IsSomeAnd result.refused (λ answer. IsErr answer) }
+        ensures client { IfSome result.task (λ task. task.job.client ≡ self.now.executor.client) }
     {
         self.change(self.to_write(&path, &bytes))
     }
@@ -276,6 +290,7 @@ impl<H: Runtime, J: Job + Carries<CallJob<Change, H>>> Files<H, J> {
     pub fn rename<P: AsPath, Q: AsPath>(&self, from: P, to: Q) -> FileTask<Change, H>
         ensures asked { IfSome result.asked (λ asked. IsRename (P.path_text from) (Q.path_text to) asked.value.what) }
         ensures answered { IsNone result.task → IsSomeAnd result.refused (λ answer. IsErr answer) }
+        ensures client { IfSome result.task (λ task. task.job.client ≡ self.now.executor.client) }
     {
         self.change(self.to_rename(&from, &to))
     }
@@ -294,6 +309,7 @@ impl<H: Runtime, J: Job + Carries<CallJob<Change, H>>> Files<H, J> {
     pub fn create_dir<P: AsPath>(&self, path: P) -> FileTask<Change, H>
         ensures asked { IfSome result.asked (λ asked. IsCreateDir (P.path_text path) asked.value.what) }
         ensures answered { IsNone result.task → IsSomeAnd result.refused (λ answer. IsErr answer) }
+        ensures client { IfSome result.task (λ task. task.job.client ≡ self.now.executor.client) }
     {
         self.change(self.text(&path).map(Changes::CreateDir))
     }
@@ -306,6 +322,7 @@ impl<H: Runtime, J: Job + Carries<CallJob<Change, H>>> Files<H, J> {
     pub fn create_dir_all<P: AsPath>(&self, path: P) -> FileTask<Change, H>
         ensures asked { IfSome result.asked (λ asked. IsCreateDirAll (P.path_text path) asked.value.what) }
         ensures answered { IsNone result.task → IsSomeAnd result.refused (λ answer. IsErr answer) }
+        ensures client { IfSome result.task (λ task. task.job.client ≡ self.now.executor.client) }
     {
         self.change(self.text(&path).map(Changes::CreateDirAll))
     }
@@ -318,6 +335,7 @@ impl<H: Runtime, J: Job + Carries<CallJob<Change, H>>> Files<H, J> {
     pub fn remove_file<P: AsPath>(&self, path: P) -> FileTask<Change, H>
         ensures asked { IfSome result.asked (λ asked. IsRemoveFile (P.path_text path) asked.value.what) }
         ensures answered { IsNone result.task → IsSomeAnd result.refused (λ answer. IsErr answer) }
+        ensures client { IfSome result.task (λ task. task.job.client ≡ self.now.executor.client) }
     {
         self.change(self.text(&path).map(Changes::RemoveFile))
     }
@@ -330,6 +348,7 @@ impl<H: Runtime, J: Job + Carries<CallJob<Change, H>>> Files<H, J> {
     pub fn remove_dir<P: AsPath>(&self, path: P) -> FileTask<Change, H>
         ensures asked { IfSome result.asked (λ asked. IsRemoveDir (P.path_text path) asked.value.what) }
         ensures answered { IsNone result.task → IsSomeAnd result.refused (λ answer. IsErr answer) }
+        ensures client { IfSome result.task (λ task. task.job.client ≡ self.now.executor.client) }
     {
         self.change(self.text(&path).map(Changes::RemoveDir))
     }
@@ -342,6 +361,7 @@ impl<H: Runtime, J: Job + Carries<CallJob<Change, H>>> Files<H, J> {
     pub fn remove_dir_all<P: AsPath>(&self, path: P) -> FileTask<Change, H>
         ensures asked { IfSome result.asked (λ asked. IsRemoveDirAll (P.path_text path) asked.value.what) }
         ensures answered { IsNone result.task → IsSomeAnd result.refused (λ answer. IsErr answer) }
+        ensures client { IfSome result.task (λ task. task.job.client ≡ self.now.executor.client) }
     {
         self.change(self.text(&path).map(Changes::RemoveDirAll))
     }
@@ -360,6 +380,8 @@ impl<H: Runtime, J: Job> Files<H, J> {
         J: Carries<CallJob<List, H>>,
         ensures asked { IfSome result.task.asked (λ asked. IsPath (P.path_text path) asked.value.path) }
         ensures answered { IsNone result.task.task → IsSomeAnd result.task.refused (λ answer. IsErr answer) }
+        ensures client { IfSome result.task.task (λ task. task.job.client ≡ self.now.executor.client) }
+        ensures share { IfSome result.files (λ share. share.executor.client ≡ self.now.executor.client) }
     {
         let system = self.system;
         let call = self.text(&path).map(|path| List { system, path });
@@ -379,6 +401,8 @@ impl<H: Runtime, J: Job> Files<H, J> {
         ensures asked { IfSome result.task.asked (λ asked. IsPath (P.path_text from) asked.value.from
             × IsPath (Q.path_text to) asked.value.to) }
         ensures answered { IsNone result.task.task → IsSomeAnd result.task.refused (λ answer. IsErr answer) }
+        ensures client { IfSome result.task.task (λ task. task.job.client ≡ self.now.executor.client) }
+        ensures share { IfSome result.files (λ share. share.executor.client ≡ self.now.executor.client) }
     {
         Copying::new(self, self.to_copy(&from, &to))
     }

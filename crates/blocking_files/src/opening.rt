@@ -35,6 +35,8 @@ pub(crate) fn file_over<H: Runtime, J: Job>(
 ) -> io::Result<File<H, J>>
     ensures file { IfOk result (λ opened. opened.file ≡ file) }
     ensures idle { IfOk result (λ opened. IsAt Idle opened.owner.owner.place) }
+    ensures client { IfSome files.now (λ files. IfOk result (λ opened.
+        (opened.owner.owner.executor.client ≡ files.executor.client) × (opened.files.executor.client ≡ files.executor.client))) }
 {
     match files {
         Some(files) => Ok(File::new(files, file)?),
@@ -47,6 +49,8 @@ impl<H: Runtime, J: Job + Carries<CallJob<Open, H>>> Opening<H, J> {
         ensures asked { IfOk call (λ call. IsSomeAnd result.task.asked (λ asked. asked.value ≡ call)) }
         ensures refused { IfErr call (λ _. IsNone result.task.asked) }
         ensures answered { IsNone result.task.task → IsSomeAnd result.task.refused (λ answer. IsErr answer) }
+        ensures client { IfSome result.task.task (λ task. task.job.client ≡ files.now.executor.client) }
+        ensures share { IfSome result.files (λ share. share.executor.client ≡ files.now.executor.client) }
     {
         Opening {
             task: files.begin(call),
@@ -67,6 +71,9 @@ impl<H: Runtime, J: Job> Future for Opening<H, J> {
 
     fn poll(&mut self, cx: &mut Context<'_>) -> Poll<io::Result<File<H, J>>>
         ensures idle { IfReady result (λ r. IfOk r (λ file. IsAt Idle file.owner.owner.place)) }
+        ensures client { IfSome self.old.files (λ files. IfReady result (λ r. IfOk r (λ file.
+            (file.owner.owner.executor.client ≡ files.executor.client) × (file.files.executor.client ≡ files.executor.client)))) }
+        ensures files { self.new.files ≡ self.old.files }
         ensures refused { IfSome self.old.task.refused (λ answer. IfErr answer (λ why. result ≡ Poll.Ready (Err why))) }
         ensures behind { IsNone self.old.task.task → IsNone self.old.task.refused → result ≡ Poll.Pending }
         ensures taken { IfReady result (λ _. IsNone self.new.task.task × IsNone self.new.task.refused) }

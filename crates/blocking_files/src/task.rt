@@ -85,6 +85,7 @@ impl<F: Call<Out = io::Result<T>> + Drop, T: Drop, H: Runtime> FileTask<F, H> {
         ensures asked { IfOk call (λ call. IsSomeAnd result.asked (λ asked. asked.value ≡ call)) }
         ensures refused { IfErr call (λ _. IsNone result.asked) }
         ensures answered { IsNone result.task → IsSomeAnd result.refused (λ answer. IsErr answer) }
+        ensures client { IfSome result.task (λ task. task.job.client ≡ executor.now.client) }
     {
         let call = match call {
             Ok(call) => call,

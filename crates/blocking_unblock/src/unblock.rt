@@ -92,6 +92,7 @@ impl<T: Drop, I: Drop, J: Job, H: Runtime> Unblock<T, I, J, H> {
     /// ```
     pub fn new(executor: Executor<J, H>, handle: T) -> Self
         ensures place { result.place ≡ AtOwner handle }
+        ensures executor { result.executor ≡ executor }
         ensures bytes { result.capacity.bytes ≡ 8388608 }
         ensures items { result.capacity.items ≡ 8192 }
     {
@@ -114,6 +115,7 @@ impl<T: Drop, I: Drop, J: Job, H: Runtime> Unblock<T, I, J, H> {
     pub fn with_capacity(capacity: usize, executor: Executor<J, H>, handle: T) -> Self
         requires { 0 < capacity }
         ensures place { result.place ≡ AtOwner handle }
+        ensures executor { result.executor ≡ executor }
         ensures bytes { result.capacity.bytes ≡ capacity }
         ensures items { result.capacity.items ≡ capacity }
     {

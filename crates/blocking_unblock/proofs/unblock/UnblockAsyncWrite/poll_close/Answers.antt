@@ -15,7 +15,7 @@ returns-in-Ready-Failed-clause-fault g c =
 
 -- a handle that is back with its owner isn't closed
 pub returns-in-Ready-Failed-clause-open : goal.returns-in-Ready-Failed-clause-open
-returns-in-Ready-Failed-clause-open g c open closed =
+returns-in-Ready-Failed-clause-open g c before closed =
     let back : IsAt Idle c.poll.new.self.place =
-      fits_as c.in-Ready-Failed.field-0-is Close _ _ _ c.in-Ready-Failed.ensures.fits in
+    fits_as c.in-Ready-Failed.field-0-is Close _ _ _ c.in-Ready-Failed.ensures.fits in
     cc
