@@ -2,6 +2,7 @@
 use crate::folder::{folder, now};
 use blocking::Host;
 use blocking_files::{CarriesFiles, Files};
+use futures::executor::block_on;
 use std::io::ErrorKind;
 use std::os::unix::fs::PermissionsExt;
 use std::path::Path;
@@ -25,31 +26,50 @@ fn copy<H: Host, J: CarriesFiles<H>>(
     Ok(copied == count as u64 && mode == 0o600 && is_whole)
 }
 
-// Copies files, and one to itself: how many of the copies are whole, and how the last failed.
+// How a copy failed.
+fn fault<H: Host, J: CarriesFiles<H>>(
+    rt: H,
+    files: &Files<H, J>,
+    (from, to): (Path<'_>, Path<'_>),
+) -> io::Result<Option<ErrorKind>> {
+    Ok(
+        block_on(&rt, files.copy(from, to))?
+            .err()
+            .map(|why| why.kind()),
+    )
+}
+
+// Copies files, one to itself and a folder: how many of the copies are whole, and how the last two failed.
 fn copy_all<H: Host, J: CarriesFiles<H>>(
     rt: H,
     system: HostRuntime,
     files: &Files<H, J>,
+    folder: Path<'_>,
     (from, to): (Path<'_>, Path<'_>),
-) -> io::Result<(u32, Option<ErrorKind>)> {
+) -> io::Result<(u32, [Option<ErrorKind>; 2])> {
     let mut whole = 0u32;
     for count in [0usize, 1, 65_536, 1_000_003] {
         if copy(rt, system, files, (from, to), count)? {
             whole = whole.saturating_add(1);
         }
     }
-    match now(&rt, files.copy(from, from)) {
-        Ok(_) => Ok((whole, None)),
-        Err(why) => Ok((whole, Some(why.kind()))),
-    }
+    let itself = fault(rt, files, (from, from))?;
+    Ok((whole, [itself, fault(rt, files, (folder, to))?]))
 }
 
 fn copied<H: Host>(
     rt: H,
     system: HostRuntime,
+    folder: Path<'_>,
     paths: (Path<'_>, Path<'_>),
-) -> io::Result<(u32, Option<ErrorKind>)> {
-    copy_all(rt, system, &Files::new(rt, system, Some("2"))?, paths)
+) -> io::Result<(u32, [Option<ErrorKind>; 2])> {
+    copy_all(
+        rt,
+        system,
+        &Files::new(rt, system, Some("2"))?,
+        folder,
+        paths,
+    )
 }
 
 #[test]
@@ -57,10 +77,13 @@ fn a_copy_has_the_bytes_and_the_permissions(rt: HostRuntime) -> Result<(), Fail>
     let folder = folder(rt, "blocking_files_copies")?;
     let from = folder.join(rt.alloc(), "a")?;
     let to = folder.join(rt.alloc(), "b")?;
-    let (whole, itself) = copied(rt, rt, (from.as_path(), to.as_path()))?;
+    let paths = (from.as_path(), to.as_path());
+    let (whole, faults) = copied(rt, rt, folder.as_path(), paths)?;
     assert_eq!(rt; whole, 4);
-    assert_eq!(rt; itself, Some(ErrorKind::InvalidInput));
+    // (neither empties what it would write to)
+    assert_eq!(rt; faults, [Some(ErrorKind::InvalidInput); 2]);
     assert_eq!(rt; fs::metadata(&rt, &from)?.len(), 1_000_003);
+    assert_eq!(rt; fs::metadata(&rt, &to)?.len(), 1_000_003);
     fs::remove_dir_all(&rt, &folder)?;
     Ok(())
 }

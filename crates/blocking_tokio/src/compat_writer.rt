@@ -9,7 +9,8 @@ use std::io::ErrorKind;
 
 /// What is written by polls, as what the kit's `tokio` writes.
 ///
-/// What a write took is written later; a flush that is ready says that it was, and not that the disk has it. A shutdown flushes and then
+/// What a write took is written later; a flush that is ready says that it was, and not that the disk has it. A write behind one that failed
+/// takes none, which the kit's `write_all` and `copy` tell as `WriteZero`: a flush tells the fault. A shutdown flushes and then
 /// closes, so that the handle goes; from its first poll on a write fails with [`ErrorKind::BrokenPipe`]. Over what is never closed, as an
 /// `Open` of `blocking_anytime`, it flushes and fails with [`ErrorKind::Unsupported`]. A shutdown that failed may be asked for again. A fault
 /// comes as an error of the system, as `io::Error::from` makes one of it.
