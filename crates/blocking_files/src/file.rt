@@ -21,8 +21,8 @@ use std::sync::Arc;
 
 /// An open file, which a pool reads, writes and moves. Who polls waits for the pool alone.
 ///
-/// It is open as long as it is there: dropping it closes it, once no job has it, and what was written and not flushed may be lost then. A flush that is ready says
-/// that all was written, and not that the disk has it: that is [`File::sync_all`].
+/// It is open as long as it is there: dropping it closes it, once no job has it, and what was written and not flushed may be lost then. A
+/// flush that is ready says that all was written, and not that the disk has it: that is [`File::sync_all`].
 ///
 /// A job reads ahead. So a write, or a seek from where the file is, goes on from further than what was read: seek from the start instead.
 ///

@@ -389,8 +389,9 @@ impl<H: Runtime, J: Job> Files<H, J> {
     }
 
     /// Copies the bytes of a file to another, and its permissions. The other is empty before that, and one that isn't there is made. Where
-    /// both are one file, or the first is none, the answer is an error of the kind `InvalidInput`, and all stays as it is. Once it is ready all is written and
-    /// flushed, which doesn't mean that the disk has it. Where it fails, or its future is dropped, the other may have a part of the bytes.
+    /// both are one file, or the first is none, the answer is an error of the kind `InvalidInput`, and all stays as it is. Once it is ready
+    /// all is written and flushed, which doesn't mean that the disk has it. Where it fails, or its future is dropped, the other may have a
+    /// part of the bytes.
     ///
     /// ```rust
     /// let copied = block_on(&rt, files.copy(from, to))??;
