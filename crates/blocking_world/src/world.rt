@@ -101,7 +101,8 @@ impl World {
         Ok(twin)
     }
 
-    /// Ends the world: the jobs that are left end as done, and every worker that arrived stops. Takes no memory.
+    /// Ends the world: every turn ends as done, and the workers that arrived end what is queued so, too, and stop. What is left, parked or
+    /// queued where no worker arrived, goes with the pool. Takes no memory.
     pub fn close(self) {
         let World {
             assembly,

@@ -6,6 +6,7 @@ ghost use Rattle.blocking_world_laws.specs.Queue.{InOrder, client_limit};
 ghost use Rattle.blocking_world_laws.specs.Growth.{GrowthLaw};
 ghost use Rattle.blocking_world_laws.specs.Turns.{TurnLaw};
 ghost use Rattle.blocking_world_laws.specs.Answers.{AnswerLaw};
+ghost use Rattle.blocking_world_laws.specs.Copies.{CopyLaw};
 ghost use Rattle.blocking_world_laws.specs.Wakes.{NoLostWake};
 ghost use Rattle.blocking_world_laws.specs.OwnerWakes.{NoLostOwnerWake};
 ghost use Rattle.blocking_world_laws.specs.Served.{IsServed};
@@ -68,6 +69,8 @@ pub fn refusals()
         Refuses (Keeps NoLostOwnerWake) past now → Legal setting plan (past ▸ now) → ⊥ }
     ensures by_service { (setting : ℕ) (plan : List Bool) (past : List Moment) (now : Moment) →
         Refuses (Keeps IsServed) past now → Legal setting plan (past ▸ now) → ⊥ }
+    ensures by_copy { (setting : ℕ) (plan : List Bool) (past : List Moment) (now : Moment) →
+        Refuses CopyLaw past now → Legal setting plan (past ▸ now) → ⊥ }
     ensures by_staffing { (setting : ℕ) (plan : List Bool) (past : List Moment) (now : Moment) →
         Refuses (Keeps IsStaffedAsSeen) past now → Legal setting plan (past ▸ now) → ⊥ }
     // an event of this owner or of its job

@@ -9,6 +9,9 @@ use Rattle.blocking_world_law_tests.proofs.legality.refusals.Goals as goal
 pub returns-clause-by_owner_wake : goal.returns-clause-by_owner_wake
 returns-clause-by_owner_wake c = λ setting plan past now refused legal. refused legal.owner_wakes.0
 
+pub returns-clause-by_copy : goal.returns-clause-by_copy
+returns-clause-by_copy c = λ setting plan past now refused legal. refused legal.copies.0
+
 pub returns-clause-by_owner : goal.returns-clause-by_owner
 returns-clause-by_owner c = λ setting plan past now h inside refused legal.
     refused (owner_keeps setting plan past now h inside legal)
