@@ -3,14 +3,24 @@ use crate::copier::copy;
 use crate::log::{log_line, log_to};
 use crate::mixed::sum_up;
 use blocking::Host;
+use std::alloc::{AllocError, Global};
 use std::fs::File;
 use std::sync::Arc;
 use std::test::Fail;
 use std::{fs, io, thread};
 
+// So many bytes, byte i being i modulo 251, so that one piece of 65,536 bytes differs from the next.
+fn numbered(alloc: Global, count: usize) -> Result<Vec<u8>, AllocError> {
+    let mut bytes = Vec::with_capacity(alloc, count)?;
+    for i in 0..count {
+        bytes.push((i % 251) as u8)?;
+    }
+    Ok(bytes)
+}
+
 #[test]
 fn copy_is_what_was_copied(rt: HostRuntime) -> Result<(), Fail> {
-    let bytes = vec![in rt.alloc(); 7u8; 200_000]?;
+    let bytes = numbered(rt.alloc(), 200_000)?;
     fs::write(&rt, "copier.from", &bytes)?;
     let (from, to) = (
         File::open(&rt, "copier.from")?,

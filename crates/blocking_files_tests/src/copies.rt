@@ -3,11 +3,21 @@ use crate::folder::{folder, now};
 use blocking::Host;
 use blocking_files::{CarriesFiles, Files};
 use futures::executor::block_on;
+use std::alloc::{AllocError, Global};
 use std::io::ErrorKind;
 use std::os::unix::fs::PermissionsExt;
 use std::path::Path;
 use std::test::Fail;
 use std::{fs, io};
+
+// So many bytes, byte i being i modulo 251, so that one piece of 65,536 bytes differs from the next.
+fn numbered(alloc: Global, count: usize) -> Result<Vec<u8>, AllocError> {
+    let mut bytes = Vec::with_capacity(alloc, count)?;
+    for i in 0..count {
+        bytes.push((i % 251) as u8)?;
+    }
+    Ok(bytes)
+}
 
 // Copies a file of so many bytes: whether all of it is told and is there, with its permissions.
 fn copy<H: Host, J: CarriesFiles<H>>(
@@ -17,7 +27,7 @@ fn copy<H: Host, J: CarriesFiles<H>>(
     (from, to): (Path<'_>, Path<'_>),
     count: usize,
 ) -> io::Result<bool> {
-    let bytes = vec![in rt.alloc(); 7u8; count]?;
+    let bytes = numbered(rt.alloc(), count)?;
     fs::write(&system, from, bytes.as_slice())?;
     fs::set_permissions(&system, from, fs::Permissions::from_mode(0o600))?;
     let copied = now(&rt, files.copy(from, to))?;

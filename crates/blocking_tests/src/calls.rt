@@ -156,7 +156,10 @@ const ROUNDS: u64 = 6_000;
 const MAY_BE_LATE: u32 = 1;
 
 // For how many seconds they are played at most: such a machine plays fewer.
-const SECONDS: u64 = 20;
+const SECONDS: u64 = 15;
+
+// How often that is tried: where threads don't meet as they should, too many rounds are late in each.
+const TRIES: u32 = 3;
 
 // How many rounds last long; None where the calls of one don't meet.
 fn late_rounds<J: Job + Carries<CallJob<Meet, H>>, H: Host>(
@@ -185,12 +188,26 @@ fn late_rounds<J: Job + Carries<CallJob<Meet, H>>, H: Host>(
     Ok(Some(late))
 }
 
+// Whether the calls of each round meet, and hardly any late in one of these tries.
+fn meet_at_once<J: Job + Carries<CallJob<Meet, H>>, H: Host>(
+    rt: H,
+    executor: &Executor<J, H>,
+) -> io::Result<bool> {
+    for _ in 0..TRIES {
+        match late_rounds(rt, executor)? {
+            Some(late) if late <= MAY_BE_LATE => return Ok(true),
+            Some(_) => {}
+            None => return Ok(false),
+        }
+    }
+    Ok(false)
+}
+
 // (the calls of a round find their workers idle, asleep or looking, as the round before left them)
 #[test]
 fn two_calls_run_at_once(rt: HostRuntime) -> Result<(), Fail> {
     let executor: Executor<CallJob<Meet, HostRuntime>, HostRuntime> = Executor::new(rt, Some("2"))?;
-    let late = late_rounds(rt, &executor)?;
-    assert!(rt; late.is_some_and(|late| late <= MAY_BE_LATE));
+    assert!(rt; meet_at_once(rt, &executor)?);
     Ok(())
 }
 

@@ -154,7 +154,7 @@ fn has_four_workers<J: Job + Carries<CallJob<Sleep<H>, H>>, H: Host + std::fs::F
     Ok(others.begin(executor, 4, 300)? && come_to_be(&rt, 4)? && others.is_served()?)
 }
 
-// How long the threads had a processor within a second, and whether three workers were idle before it and behind it.
+// How long the threads had a processor within a second, if the system tells that, and whether three workers were idle before it and behind it.
 fn nanos_of_a_second<J: Job, H: Host + std::fs::Files>(
     rt: &H,
     executor: &Executor<J, H>,
@@ -164,7 +164,10 @@ fn nanos_of_a_second<J: Job, H: Host + std::fs::Files>(
     thread::sleep(rt, Duration::from_secs(1));
     let after = processor_nanos(rt)?;
     let idle = (idle_before, executor.counts().idle);
-    Ok((after.saturating_sub(before), idle == (IDLE, IDLE)))
+    Ok((
+        after.saturating_sub(before),
+        before > 0 && idle == (IDLE, IDLE),
+    ))
 }
 
 // How long they had one within a second: a call of a client sleeps so long, a hundred more of it are queued, and three workers are idle. None
@@ -184,12 +187,31 @@ fn nanos_beside_queued_calls<J: Job + Carries<CallJob<Sleep<H>, H>>, H: Host + s
     Ok(is_kept.then_some(nanos))
 }
 
+// How often that is tried: a machine with much else to do may hold up what is to happen within its second.
+const TRIES: u32 = 5;
+
+// Whether the threads have hardly any processor in one of these tries.
+fn sleep_beside_queued_calls<J: Job + Carries<CallJob<Sleep<H>, H>>, H: Host + std::fs::Files>(
+    rt: H,
+    executor: &Executor<J, H>,
+) -> io::Result<bool> {
+    for _ in 0..TRIES {
+        set_client_limit(executor, None);
+        if !has_four_workers(rt, executor)? {
+            continue;
+        }
+        let nanos = nanos_beside_queued_calls(rt, executor)?;
+        if nanos.is_some_and(|nanos| nanos < HARDLY_ANY) {
+            return Ok(true);
+        }
+    }
+    Ok(false)
+}
+
 #[test]
 fn idle_workers_sleep_beside_jobs_that_are_not_ready(rt: HostRuntime) -> Result<(), Fail> {
     let executor: Callers<HostRuntime> = Executor::new(rt, Some("4"))?;
-    assert!(rt; has_four_workers(rt, &executor)?);
-    let nanos = nanos_beside_queued_calls(rt, &executor)?;
-    assert!(rt; nanos.is_some_and(|nanos| nanos < HARDLY_ANY));
+    assert!(rt; sleep_beside_queued_calls(rt, &executor)?);
     Ok(())
 }
 

@@ -42,18 +42,21 @@ impl<J: Job + Carries<CallJob<Tick, H>>, H: Runtime> Call for User<J, H> {
 
     ghost may_give = { λ _. Unit {0} };
 
-    // Answers whether the counts agreed each time.
+    // Answers whether the counts agreed each time, and told of a worker.
     fn call(self) -> bool {
+        let mut has_workers = false;
         for n in 0..CALLS {
             if !adds(&self.ticks, &self.made) {
                 return false;
             }
             set_max_blocking_threads(&self.ticks, 1 + (n % 8) as usize);
-            if !agree(self.ticks.counts()) {
+            let counts = self.ticks.counts();
+            if !agree(counts) {
                 return false;
             }
+            has_workers = has_workers || counts.workers > 0;
         }
-        true
+        has_workers
     }
 }
 

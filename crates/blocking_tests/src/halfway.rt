@@ -56,18 +56,19 @@ impl Write for Hole {
 type Halves<H> = CopyJobs<H, Trickle<H>, Hole>;
 
 // Polls a copy, unless it is to be left at once, and drops it after a pause of so many milliseconds, or its reader and its writer one by one.
+// Answers whether it was under way then.
 fn leave<A: AsyncRead + Drop, B: AsyncWrite + Drop, R: Clock>(
     rt: &R,
     mock: &MockTask,
     mut copier: Copier<A, B>,
     pause: u32,
     is_taken_apart: bool,
-)
+) -> bool
     requires { ⟦<Copier<A, B> as Future>⟧.can_poll copier }
 {
     if pause > 0 {
         if mock.poll(&mut copier).is_ready() {
-            return;
+            return false;
         }
         thread::sleep(rt, Duration::from_millis(u64::from(pause)));
     }
@@ -76,6 +77,7 @@ fn leave<A: AsyncRead + Drop, B: AsyncWrite + Drop, R: Clock>(
         drop(writer);
         drop(reader);
     }
+    true
 }
 
 // Whether no handle comes to live, and all workers to be idle, with no job left.
@@ -90,7 +92,7 @@ fn is_over<J: Job, H: Host>(rt: &H, executor: &Executor<J, H>, living: &Arc<()>)
     false
 }
 
-// A copy between the two, which is left so.
+// Whether a copy between the two is under way when it is left so.
 fn begin_and_leave<J: Job + Carries<ReadJob<Trickle<H>, H>> + Carries<WriteJob<Hole, H>>, H: Host>(
     rt: H,
     executor: &Executor<J, H>,
@@ -98,7 +100,7 @@ fn begin_and_leave<J: Job + Carries<ReadJob<Trickle<H>, H>> + Carries<WriteJob<H
     mock: &MockTask,
     pause: u32,
     is_taken_apart: bool,
-) -> io::Result<()> {
+) -> io::Result<bool> {
     let trickle = Trickle {
         rt,
         _living: living.clone()?,
@@ -110,11 +112,10 @@ fn begin_and_leave<J: Job + Carries<ReadJob<Trickle<H>, H>> + Carries<WriteJob<H
     let reader: Reader<Trickle<H>, H, J> = Unblock::with_capacity(CAPACITY, own, trickle);
     let writer: Writer<Hole, H, J> = Unblock::with_capacity(CAPACITY, other, hole);
     let copier = Copier::new(rt.alloc(), reader, writer, PIECE)?;
-    leave(&rt, mock, copier, pause, is_taken_apart);
-    Ok(())
+    Ok(leave(&rt, mock, copier, pause, is_taken_apart))
 }
 
-// The first round whose handles and workers don't come to rest, if there is one.
+// The first round whose copy is over before it is left, or whose handles and workers don't come to rest, if there is one.
 fn first_that_stays<J, H: Host>(rt: H, executor: Executor<J, H>) -> io::Result<Option<u32>>
 where
     J: Job + Carries<ReadJob<Trickle<H>, H>> + Carries<WriteJob<Hole, H>>,
@@ -122,8 +123,8 @@ where
     let living = Arc::new(rt.alloc(), ())?;
     for round in 0..24u32 {
         let mock = MockTask::new(&rt)?;
-        begin_and_leave(rt, &executor, &living, &mock, round / 2, round % 2 == 0)?;
-        if !is_over(&rt, &executor, &living) {
+        let is_left = begin_and_leave(rt, &executor, &living, &mock, round / 2, round % 2 == 0)?;
+        if !is_left || !is_over(&rt, &executor, &living) {
             return Ok(Some(round));
         }
     }

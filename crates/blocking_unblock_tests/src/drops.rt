@@ -168,8 +168,9 @@ impl<S: Lender> Stage<S> {
         let comes = owner.leaves(&mock, &gate, way);
         // (another thread may be quick where nothing keeps the job)
         let is_as_it_must = match (row.standing, way) {
-            (_, IntoInner(Point::Woken)) => comes,
+            // (a worker may have brought the handle back before it is asked for)
             (Parked, _) => true,
+            (_, IntoInner(Point::Woken)) => comes,
             _ => (gate.gone() == 1) == row.is_at_once,
         };
         gate.open();
@@ -261,7 +262,7 @@ pub(crate) fn dropped_at<F: Future<Output: Drop> + Drop>(
         Point::Running => comes_true(|| gate.calls() == 1),
         Point::Woken => {
             gate.open();
-            woken(mock)
+            waits && woken(mock)
         }
         Point::Unpolled | Point::Waiting => true,
     };

@@ -49,7 +49,8 @@ fn left_of<S: LendsOn<Endless<H>>, H: Runtime + RandomSource>(
         let _ = owner.begin(&mut mock);
         owners.push(owner)?;
     }
-    if !rests(root) {
+    // (each job calls its handle before it waits)
+    if !rests(root) || tally.calls() < OWNERS {
         return Ok(None);
     }
     drop(owners);
@@ -440,18 +441,20 @@ impl Busy {
     }
 }
 
-// How many calls are made of a handle whose owner leaves while its job is queued; None where it doesn't go. Over the pool of this owner.
+// How many calls are made of a handle whose owner leaves while its job is queued; None where it doesn't go, or where the poll that begins doesn't
+// wait as it must. Over the pool of this owner.
 fn calls_of<S: LendsOn<Endless<H>>, H: Runtime + RandomSource>(
     rt: H,
     root: &S,
+    waits: bool,
 ) -> io::Result<Option<usize>> {
     let mut busy = Busy::new(rt, root)?;
     let mut owner = root.lend(4, Endless::new(rt, &busy.tally, Pace::AtOnce)?)?;
-    let _ = owner.begin(&mut busy.mock);
+    let is_begun = owner.begin(&mut busy.mock) == waits;
     drop(owner);
     busy.call.go_on();
     let tally = &busy.tally;
-    if !comes_true(|| tally.gone() == 1) {
+    if !comes_true(|| tally.gone() == 1) || !is_begun {
         return Ok(None);
     }
     Ok(Some(tally.calls()))
@@ -460,18 +463,22 @@ fn calls_of<S: LendsOn<Endless<H>>, H: Runtime + RandomSource>(
 // The same, over a pool of its own, of one worker.
 fn calls_of_queued<J: Begins<Endless<H>, H> + Send + 'static, H: Host>(
     rt: H,
+    waits: bool,
 ) -> io::Result<Option<usize>> {
     let root = root_of::<J, H>(rt, "1")?;
-    calls_of(rt, &root)
+    calls_of(rt, &root, waits)
 }
 
 #[test]
 fn queued_sessions_are_dropped_unrun(rt: HostRuntime) -> Result<(), Fail> {
-    assert_eq!(rt; calls_of_queued::<ReadJob<_, _>, _>(rt)?, Some(0));
-    assert_eq!(rt; calls_of_queued::<WriteJob<_, _>, _>(rt)?, Some(0));
-    assert_eq!(rt; calls_of_queued::<ItemJob<_, u8, _>, _>(rt)?, Some(0));
-    assert_eq!(rt; calls_of_queued::<SeekJob<_, _>, _>(rt)?, Some(0));
-    assert_eq!(rt; calls_of_queued::<OpJob<Touch, _, _>, _>(rt)?, Some(0));
+    assert_eq!(rt; calls_of_queued::<ReadJob<_, _>, _>(rt, true)?, Some(0));
+    assert_eq!(rt; calls_of_queued::<WriteJob<_, _>, _>(rt, false)?, Some(0));
+    assert_eq!(rt; calls_of_queued::<ItemJob<_, u8, _>, _>(rt, true)?, Some(0));
+    assert_eq!(rt; calls_of_queued::<SeekJob<_, _>, _>(rt, true)?, Some(0));
+    assert_eq!(rt;
+        calls_of_queued::<OpJob<Touch, _, _>, _>(rt, true)?,
+        Some(0)
+    );
     Ok(())
 }
 

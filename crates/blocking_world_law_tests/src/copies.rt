@@ -13,7 +13,7 @@ ghost use Rattle.blocking_world_laws.specs.declared.step.HandleCall.TheVariants.
 ghost use Rattle.blocking_world_laws.specs.declared.step.Step.TheVariants.{Own, Link, Copy};
 
 /// A copier that was made reads first, writes what it read, and after a partial write the rest.
-pub fn turns()
+pub fn steps()
     ensures made { links ([] ▸ moment (Link 0 1 2) Pool None (Linked 0) 1) ≡ 1 }
     ensures lent { has_owner 1 (copiers ([] ▸ moment (Link 0 1 2) Pool None (Linked 0) 1)) ≡ true }
     ensures reads { next_of_copier (record { number = 0; reader = 0; writer = 1; piece = 2 })
