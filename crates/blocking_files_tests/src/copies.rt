@@ -13,8 +13,10 @@ use std::{fs, io};
 // So many bytes, byte i being i modulo 251, so that one piece of 65,536 bytes differs from the next.
 fn numbered(alloc: Global, count: usize) -> Result<Vec<u8>, AllocError> {
     let mut bytes = Vec::with_capacity(alloc, count)?;
-    for i in 0..count {
-        bytes.push((i % 251) as u8)?;
+    let mut byte = 0u8;
+    for _ in 0..count {
+        bytes.push(byte)?;
+        byte = if byte == 250 { 0 } else { byte.wrapping_add(1) };
     }
     Ok(bytes)
 }
