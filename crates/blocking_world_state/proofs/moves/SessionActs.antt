@@ -17,8 +17,8 @@ use Rattle.blocking_world_state.proofs.Words.{op_in, op_as, worked, Goods, OfByt
 use Rattle.blocking_world_state.proofs.Words.{OfItems, through, Session, found_room}
 use Rattle.blocking_world_state.proofs.Words.{session_after_room, found_put, session_after_put}
 use Rattle.blocking_world_state.proofs.Words.{fits_in, closing_wakes, finish_wakes}
-use Rattle.blocking_world_state.proofs.Words.{session_after_job_close, session_after_finish, front}
-use Rattle.blocking_world_state.proofs.Words.{found_piece, session_after_peek, holds}
+use Rattle.blocking_world_state.proofs.Words.{session_after_job_close, session_after_finish}
+use Rattle.blocking_world_state.proofs.Words.{front_len, found_piece, session_after_peek, holds}
 use Rattle.blocking_world_state.proofs.Words.{session_after_consume, Work, read_at_put, read_works}
 use Rattle.blocking_world_state.proofs.Words.{write_consumes, write_works, found_send}
 use Rattle.blocking_world_state.proofs.Words.{session_after_send, item_works, result_wakes}
