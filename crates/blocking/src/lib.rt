@@ -14,8 +14,8 @@
 //! - **A call**: a type that implements [`Call`] says what to do, and [`unblock`] queues it at once, before any poll. Its [`Task`] is a
 //!   future of the answer. A task that is dropped cancels the call, unless that is being made.
 //! - **A file, or anything that is read**: [`Unblock::new`] lends it to the executor, and [`AsyncReadExt`] has its futures. A job reads ahead,
-//!   so the handle itself is further than what was read. What was read ahead is lost where the handle is used otherwise (written, sought,
-//!   taken back), and where its owner is dropped.
+//!   so the handle itself is further than what was read. What was read ahead is lost where the handle is used otherwise (written, flushed,
+//!   sought, taken back), and where its owner is dropped.
 //! - **A log, or anything that is written**: the same with [`AsyncWriteExt`]. What a write took is written later; only a flush that is
 //!   ready says that it was. What wasn't flushed may be lost. A flush doesn't mean that the disk has it.
 //! - **A copy**: a [`Copier`] over both is ready once all that was read is written and flushed.

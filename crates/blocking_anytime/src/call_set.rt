@@ -29,7 +29,7 @@ pub struct CallSet<F: Call<Out: Drop>, H: Wait + Copy> {
 }
 
 impl<F: Call<Out: Drop>, H: Wait + Copy> CallSet<F, H> {
-    /// A set of no call.
+    /// A set of no call, or an error where there is no memory for one.
     pub fn new(alloc: Global) -> Result<CallSet<F, H>, AllocError>
         ensures { IfOk result (λ set. IsEmptySet set.calls) }
     {

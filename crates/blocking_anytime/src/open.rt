@@ -283,7 +283,7 @@ impl<T: Write + Drop, I: Drop, J: Job + Carries<WriteJob<T, H>>, H: Runtime> Asy
     }
 
     /// Waits until all that was taken is written and flushed, or answers why it isn't. A fault is reported once. A flush doesn't mean that
-    /// the disk has it.
+    /// the disk has it. Of an owner that reads it stops the session: what was read ahead is lost, and the reader's fault is the answer.
     fn poll_flush(&mut self, cx: &mut Context<'_>) -> Poll<Result<(), IoFault>>
         ensures follows { Follows FlushCall self.old.owner.place (reply_of_done result) self.new.owner.place }
         ensures at_once { KeepsAtOnce FlushCall self.old.owner.place self.new.owner.place }

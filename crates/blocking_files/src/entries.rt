@@ -19,6 +19,8 @@ use std::io::ErrorKind;
 
 /// The entries of a directory, as a stream: a worker looks ahead, and who polls waits for the next entry alone.
 ///
+/// It looks 256 entries ahead at most. A name that isn't UTF-8 comes as an error of the kind `InvalidFilename`.
+///
 /// An entry has a path and a name. What else the system knows of it is asked by [`Files::symlink_metadata`] of its path; the entry's own
 /// `metadata` would have the caller wait.
 ///

@@ -24,7 +24,8 @@ use std::sync::Arc;
 /// It is open as long as it is there: dropping it closes it, once no job has it, and what was written and not flushed may be lost then. A
 /// flush that is ready says that all was written, and not that the disk has it: that is [`File::sync_all`].
 ///
-/// A job reads ahead. So a write, or a seek from where the file is, goes on from further than what was read: seek from the start instead.
+/// A job reads ahead. So a write, a seek from where the file is, or a read behind a flush, a sync or a change of length, goes on from further
+/// than what was read: seek from the start instead.
 ///
 /// ```rust
 /// let mut file = block_on(&rt, files.open_with(how, path))??;
@@ -119,7 +120,8 @@ impl<H: Runtime, J: Job + Carries<CallJob<Change, H>> + Carries<WriteJob<Shared,
         Changing::new(self, what)
     }
 
-    /// Flushes, and then has the file cut or extended with zeros to so many bytes. The position stays. It doesn't mean that the disk has it.
+    /// Flushes, and then has the file cut or extended with zeros to so many bytes. The system's position
+    /// stays, which is behind what was read ahead. It doesn't mean that the disk has it.
     ///
     /// ```rust
     /// block_on(&rt, file.set_len(4))??;

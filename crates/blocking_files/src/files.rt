@@ -18,6 +18,8 @@ use std::path::AsPath;
 
 /// A pool for files: who has a share of it makes calls on paths, and opens files.
 ///
+/// A call answers the error of std's function of that name, or a refusal of the pool as an error of the system.
+///
 /// `J` is the type of the pool's jobs. A program's own will do that carries what its calls ask for.
 ///
 /// ```rust

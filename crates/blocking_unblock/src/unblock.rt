@@ -51,8 +51,8 @@ use std::{fmt, io, mem};
 ///
 /// - What a write took is written later. Without a flush that is ready it may be lost, as where the owner is dropped, and a flush doesn't mean
 ///   that the disk has it.
-/// - A job reads ahead, so the handle stands further than what was read. An operation on it, a write or a seek goes on from there, and what was
-///   read ahead and not received is lost then.
+/// - A job reads ahead, so the handle stands further than what was read. An operation on it, a write, a flush or a seek goes on from there, and
+///   what was read ahead and not received is lost then. A flush answers the fault of such a reader.
 /// - So an owner of standard input or of a socket that is dropped may have eaten bytes that nobody received.
 ///
 /// `I` is the type of the items of a handle that is an iterator; any type will do for another.
@@ -105,7 +105,7 @@ impl<T: Drop, I: Drop, J: Job, H: Runtime> Unblock<T, I, J, H> {
         }
     }
 
-    /// The owner of a handle, whose sessions have pipes for at most `capacity` bytes or items. One that reads or writes has its memory in
+    /// The owner of a handle, whose sessions have pipes for at most `capacity` bytes or items, which is above 0. One that reads or writes has its memory in
     /// pieces of one length, 65,536 bytes at most. It takes as few as hold the capacity, and for one that reads two at least. It takes two
     /// of them in addition.
     ///
