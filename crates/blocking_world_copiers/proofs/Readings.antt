@@ -10,7 +10,7 @@ use Rattle.blocking_world_laws.specs.declared.step.Step.TheVariants.{Job}
 use Rattle.blocking_world_pool.specs.Crews.{free_hands, busy_hands}
 use Rattle.blocking_world_state.specs.Carried.{polls_in}
 use Rattle.blocking_world_state.specs.Parts.{next_at}
-use Rattle.blocking_world_state.proofs.laws.Whole as parts
+use Rattle.blocking_world_state.proofs.laws.Legality as parts
 use Rattle.blocking_world_copiers.specs.Assemblies.{Assembled}
 use Rattle.blocking_world_copiers.specs.Ties.{IsLawful}
 
