@@ -65,9 +65,10 @@ fn show_lines<T: Read + Drop + Send + 'static, H: Host>(rt: H, reader: T) -> Res
     }
     // (a text whose last line has an end of its own has no more)
     if line.bytes.is_empty() {
-        return Ok(());
+        Ok(())
+    } else {
+        line.end(&rt)
     }
-    line.end(&rt)
 }
 
 /// Writes a file, and prints its lines.
