@@ -115,8 +115,9 @@ impl<S: Scene> Crowd<S> {
     }
 }
 
-/// Many owners of this kind leave. Where a worker is there, it drops all their handles, though no other can be had; where none is, their jobs stay queued
-/// until a later call finds one. No handle is called again. What of it is wrong, if anything is.
+/// Many owners of this kind leave. Where a worker is there, it drops all their handles, though no other can be had;
+/// where none is, their jobs stay queued until a later call finds one. No handle is called again. What of it is wrong,
+/// if anything is.
 pub(crate) fn leave<S: Scene, H: Host + Print>(
     rt: H,
     scene: S,

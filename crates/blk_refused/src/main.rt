@@ -1,7 +1,8 @@
 //! Plays scenarios in which memory and threads may be refused: `blk_refused NAME [WORD [WORD]]`.
 //!
-//! A scenario tells each refusal that it meets, by `refused: WHY`, and tries again what was refused. In the end it prints `ok`, or `WRONG` and what is
-//! wrong, with status 1. `scripts/refusals` refuses what it asks for, by the marks that it prints.
+//! A scenario tells each refusal that it meets, by `refused: WHY`, and tries again what was refused. In the end it
+//! prints `ok`, or `WRONG` and what is wrong, with status 1. `scripts/refusals` refuses what it asks for, by the marks
+//! that it prints.
 //!
 //! | Words | What is played |
 //! |---|---|

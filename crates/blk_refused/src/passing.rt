@@ -66,8 +66,8 @@ impl<H: Host> Pool<H> {
     }
 }
 
-/// Lets so many clients come and go so many times, each time others. What of it is wrong, if anything is. (`scripts/peaks` looks at how much memory that
-/// took.)
+/// Lets so many clients come and go so many times, each time others. What of it is wrong, if anything is.
+/// (`scripts/peaks` looks at how much memory that took.)
 pub(crate) fn passes<H: Host + Print>(
     rt: H,
     clients: u32,

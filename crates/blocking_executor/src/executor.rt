@@ -389,7 +389,8 @@ fn run<J: Job, R: Wait>(turn: &Turn, job: &mut J, rt: &R) -> bool {
     unreachable!()
 }
 
-/// Sets the limit of an executor's workers to this number, which isn't clamped as a text's is. Idle workers over a lowered limit stop; running jobs go on.
+/// Sets the limit of an executor's workers to this number, which isn't clamped as a text's is. Idle workers over a
+/// lowered limit stop; running jobs go on.
 ///
 /// ```rust
 /// set_max_blocking_threads(&executor, 4);
@@ -403,12 +404,13 @@ pub fn set_max_blocking_threads<J: Job, H: Runtime>(executor: &Executor<J, H>, t
     executor.leave(held, bell);
 }
 
-/// Sets how many jobs of each client may run at a time: None for any number, or a number above 0. It holds for jobs that are taken from now on. A lowered
-/// limit stops no running job, and its client's next one waits until fewer run than it says. All idle workers are notified where the limit was raised or
-/// let go. This call holds the pool's lock while it goes through the clients where a limit is to stand, and through all queued jobs where one begins or goes.
+/// Sets how many jobs of each client may run at a time: None for any number, or a number above 0. It holds for jobs
+/// that are taken from now on. A lowered limit stops no running job, and its client's next one waits until fewer run
+/// than it says. All idle workers are notified where the limit was raised or let go. This call holds the pool's lock
+/// while it goes through the clients where a limit is to stand, and through all queued jobs where one begins or goes.
 ///
-/// A job's client is the one that [`unblock_for`](crate::unblock_for) or [`add_for`](Executor::add_for) names, else that of the share which added it: 0, unless
-/// [`for_client`](Executor::for_client) named another.
+/// A job's client is the one that [`unblock_for`](crate::unblock_for) or [`add_for`](Executor::add_for) names, else
+/// that of the share which added it: 0, unless [`for_client`](Executor::for_client) named another.
 ///
 /// ```rust
 /// // However many calls client 1 adds, six of them run at a time at most.

@@ -38,6 +38,7 @@ enum Asked {
 ///     block_on(rt, task)
 /// }
 /// ```
+#[must_use]
 pub struct Task<F: Call<Out: Drop>, H: Wait + Copy> {
     // (who has none has added none)
     job: Added,

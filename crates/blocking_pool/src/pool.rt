@@ -44,6 +44,14 @@ pub use token::{Turn, WakeNote, WorkerPass};
 /// *ready* where it is queued and its client has room: fewer of the client's jobs run than the limit. Where no client
 /// limit is set, each queued job is ready. A job that was taken counts as running until its turn ends, also one that was
 /// handed out to be dropped.
+///
+/// A pool has no thread. Whoever has one names the workers by a [`Starter`], and does what they are to do:
+///
+/// ```rust
+/// let mut pool: Pool<Order> = Pool::new(rt.alloc(), None);
+/// let no = pool.add(Order(7), &mut starter)?;
+/// println!(rt; "job {} of {}", no.serial(), pool.queue_len())?;
+/// ```
 #[derive(Drop)]
 pub struct Pool<J: Job> {
     table: Table<J>,

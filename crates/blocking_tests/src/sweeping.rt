@@ -95,8 +95,8 @@ fn come_to_idle<J: Job, H: Runtime>(executor: &Executor<J, H>, count: usize) -> 
     false
 }
 
-// How many drops have begun a good while after a sweep, and whether all have once the sleeping workers' waits have timed out. None where the machine was
-// too slow to say.
+// How many drops have begun a good while after a sweep, and whether all have once the sleeping workers' waits have
+// timed out. None where the machine was too slow to say.
 fn drops_after_a_sweep<H: Host>(
     rt: H,
     executor: &Executor<Marked, H>,
@@ -166,7 +166,8 @@ fn drops_of_new_pool<H: Host>(rt: H, is_wait: bool) -> Result<Option<(usize, boo
 // How often is tried to be in time.
 const TRIES: u32 = 20;
 
-// (a worker may come late to its wait, and then takes a job that nobody rang it for; or late from it. A sweep that rings all has three drops each time)
+// (a worker may come late to its wait, and then takes a job that nobody rang it for; or late from it. A sweep that
+// rings all has three drops each time)
 #[test]
 fn sweep_rings_one_worker(rt: HostRuntime) -> Result<(), Fail> {
     for _ in 0..TRIES {

@@ -105,9 +105,9 @@ impl<T: Drop, I: Drop, J: Job, H: Runtime> Unblock<T, I, J, H> {
         }
     }
 
-    /// The owner of a handle, whose sessions have pipes for at most `capacity` bytes or items, which is above 0. One that reads or writes has its memory in
-    /// pieces of one length, 65,536 bytes at most. It takes as few as hold the capacity, and for one that reads two at least. It takes two
-    /// of them in addition.
+    /// The owner of a handle, whose sessions have pipes for at most `capacity` bytes or items, which is above 0. One
+    /// that reads or writes has its memory in pieces of one length, 65,536 bytes at most. It takes as few as hold the
+    /// capacity, and for one that reads two at least. It takes two of them in addition.
     ///
     /// ```rust
     /// let mut reader: Reader<File, H> = Unblock::with_capacity(65_536, executor, file);

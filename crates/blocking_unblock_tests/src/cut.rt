@@ -171,8 +171,8 @@ fn dropped_writing_job_wakes_its_owner(rt: HostRuntime) -> Result<(), Fail> {
     Ok(())
 }
 
-// Whether the owner of a handle, whose job is dropped once that was called, is woken for it, and only once the handle is gone. It waits for the handle
-// in another task than for the call that it was lent for.
+// Whether the owner of a handle, whose job is dropped once that was called, is woken for it, and only once the handle
+// is gone. It waits for the handle in another task than for the call that it was lent for.
 fn is_told_of<O: Starts, H: Runtime + RandomSource>(
     rt: H,
     mut owner: O,

@@ -333,7 +333,9 @@ impl<J: Job> Job for Stays<J> {
     }
 }
 
-// Whether a writer flushes all whose owner leaves while its job, which has written all, is seated and runs. None where he was too slow for that. (a job is seated within 20 milliseconds after its last write; where it isn't, it runs all the same, and has to flush)
+// Whether a writer flushes all whose owner leaves while its job, which has written all, is seated and runs. None where
+// he was too slow for that. (a job is seated within 20 milliseconds after its last write; where it isn't, it runs all
+// the same, and has to flush)
 fn flushes_where_seated<S: Starts, H: Runtime + RandomSource>(
     rt: H,
     mut owner: S,

@@ -373,7 +373,8 @@ fn new_lent<J: Job, H: Runtime>(
     })
 }
 
-/// The first owner over a pool of so many workers, which lends nothing itself: it makes the others. With `is_limited`, one job of each client may run.
+/// The first owner over a pool of so many workers, which lends nothing itself: it makes the others. With `is_limited`,
+/// one job of each client may run.
 pub(crate) fn root<H: Host>(
     rt: H,
     workers: &str,

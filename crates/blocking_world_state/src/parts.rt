@@ -73,8 +73,9 @@ impl Parts {
         }
     }
 
-    /// Takes a step, and answers what is seen of it; those of copiers have no action here. Where there is no room for what it adds to a list, or for the bytes that it tells, nothing
-    /// is done. That there is none for a session is seen.
+    /// Takes a step, and answers what is seen of it; those of copiers have no action here. Where there is no room for
+    /// what it adds to a list, or for the bytes that it tells, nothing is done. That there is none for a session is
+    /// seen.
     pub fn step<S: Starter>(&mut self, step: Step, starter: &mut S) -> Result<Event, AllocError>
         ensures ok { IfOk result
             (λ e. Steps (S.may_answer starter.old) step self.old e self.new) }

@@ -74,8 +74,8 @@ struct Session {
     strays: Strays,
 }
 
-// A session; after how many acts of its job and of the worker a call is left; whether stray wakes come there, and between the steps behind; the call that
-// is left, and the one after it.
+// A session; after how many acts of its job and of the worker a call is left; whether stray wakes come there, and
+// between the steps behind; the call that is left, and the one after it.
 #[derive(Clone, Copy)]
 struct Case {
     session: Session,
@@ -423,7 +423,8 @@ impl Play<'_> {
         Ok(None)
     }
 
-    // Begins the session, whose call is polled twice: what is written fills the pipe so. Then that may be stopped. Whether the job acts so often before.
+    // Begins the session, whose call is polled twice: what is written fills the pipe so. Then that may be stopped.
+    // Whether the job acts so often before.
     fn begin(&mut self) -> Result<bool, AllocError> {
         let Session { call, stop, .. } = self.session;
         self.take(Step::New(2, 0))?;

@@ -4,6 +4,18 @@ ghost use Rattle.std.specs.Prelude.{◌≡◌, Bool, Option, Some};
 use crate::pool::number::JobNo;
 
 /// How a step of a job ended.
+///
+/// A job that does one piece after the other goes on until none is left:
+///
+/// ```rust
+/// fn step(&mut self, _me: JobNo) -> JobStep {
+///     let Some(piece) = self.pieces.pop() else {
+///         return JobStep::Done;
+///     };
+///     self.total += piece.len();
+///     JobStep::Again
+/// }
+/// ```
 #[derive(Clone, Copy, Debug, PartialEq, Eq)]
 pub enum JobStep {
     /// The job goes on with its next step.

@@ -5,7 +5,18 @@ use std::marker::Model;
 
 /// The number of a job in its pool: its serial, and the place in the pool's table that it has until it is over.
 ///
-/// A pool gives each job that it accepts a serial of its own, counted from 1, and never gives one twice.
+/// A pool gives each job that it accepts a serial of its own, counted from 1, and never gives one twice. A job is told its
+/// number at each step, and may hand it to whoever is to wake it:
+///
+/// ```rust
+/// fn step(&mut self, me: JobNo) -> JobStep {
+///     if let Some(asleep) = self.asleep.take() {
+///         let _ = asleep.send(me);
+///         return JobStep::Waiting;
+///     }
+///     JobStep::Done
+/// }
+/// ```
 #[derive(Clone, Copy, Debug)]
 pub struct JobNo {
     place: usize,

@@ -3,6 +3,18 @@ ghost use Rattle.std.specs.Prelude.{◌≡◌, ◌+◌, ℕ, Bool, OnOk, OnErr, 
 ghost use Rattle.blocking_pool.specs.Growth.{Narrows};
 
 /// Starts workers for a pool, each by its number.
+///
+/// Here is one whose first start is refused, as where a system has no thread to spare:
+///
+/// ```rust
+/// fn start(&mut self, _number: u64) -> Result<(), StartRefused> {
+///     if self.has_refused {
+///         return Ok(());
+///     }
+///     self.has_refused = true;
+///     Err(StartRefused)
+/// }
+/// ```
 pub trait Starter {
     /// How many starts were refused so far.
     ghost refusals: { Self → ℕ };
