@@ -8,7 +8,7 @@
 //! |---|---|
 //! | `executor` | an executor is made, and a call |
 //! | `calls N`, `clients N` | N calls are made before the first is answered; each for a client of its own, of which one job may run |
-//! | `begins KIND [OLDER]` | a session of this kind begins; behind an older one, which it stops first |
+//! | `begins KIND [OLDER]` | a session of this kind begins; behind one of the same kind, which has ended, and where the older kind is another, behind one of that, which it stops first |
 //! | `passes CLIENTS ROUNDS` | so many clients come with a job each, and go, so many times, each time others |
 //! | `halves ROUNDS` | so many copies are left halfway, one after another |
 //! | `whole` | a read to the end |

@@ -1,8 +1,26 @@
-//! Sessions that begin, each maybe behind one of another kind that it stops first.
+//! Sessions that begin, each maybe behind others.
 use crate::kind::{Came, Kind, WRITTEN};
 use crate::mark::{COUNTED, GRANTED, mark};
 use crate::scene::Scene;
 use std::io;
+
+// Has a session of this kind begun and ended, whose memory serves the next one of its kind. Where the older kind is another, one of
+// that begins behind it, and gives the memory back. Whether that went well.
+fn precede<S: Scene>(scene: &mut S, kind: Kind, older: Kind) -> io::Result<bool> {
+    if !scene.begin(kind)? {
+        return Ok(false);
+    }
+    scene.open();
+    if !scene.flush()? {
+        return Ok(false);
+    }
+    if older == kind {
+        return Ok(true);
+    }
+    let has_begun = scene.begin(older)?;
+    scene.open();
+    Ok(has_begun)
+}
 
 /// Has a session of this kind begun. What of it is wrong, if anything is.
 pub(crate) fn begins<S: Scene, H: Print>(
@@ -11,11 +29,10 @@ pub(crate) fn begins<S: Scene, H: Print>(
     kind: Kind,
     older: Option<Kind>,
 ) -> io::Result<Option<&'static str>> {
-    if let Some(older) = older {
-        if !scene.begin(older)? {
-            return Ok(Some("the older session didn't begin"));
-        }
-        scene.open();
+    if let Some(older) = older
+        && !precede(&mut scene, kind, older)?
+    {
+        return Ok(Some("the sessions before it didn't begin and end"));
     }
     mark(rt, COUNTED)?;
     let came = scene.call(kind)?;

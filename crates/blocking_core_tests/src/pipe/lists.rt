@@ -141,7 +141,8 @@ fn all_are_alike(alloc: Global, seed: u64, capacity: usize) -> bool {
 fn all_stores_show_the_same(rt: HostRuntime) {
     for capacity in CAPACITIES {
         for list in 0..LISTS {
-            let seed = 0x9e37_79b9_7f4a_7c15u64.wrapping_mul(list.saturating_add(1));
+            let number = LISTS.wrapping_mul(*capacity as u64).wrapping_add(list);
+            let seed = 0x9e37_79b9_7f4a_7c15u64.wrapping_mul(number.wrapping_add(1));
             if !all_are_alike(rt.alloc(), seed, *capacity) {
                 stop(&rt, "a list of calls", list as usize);
             }
