@@ -1,6 +1,7 @@
 //! How many workers and jobs there are at one moment.
 
-/// The workers and jobs of an executor, as they were together in one section under its lock.
+/// The workers and jobs of an executor, as they were together in one section under its lock. (See the example at
+/// [`Executor::counts`](crate::Executor::counts).)
 #[derive(Clone, Copy, Debug, PartialEq, Eq)]
 pub struct Counts {
     /// All workers, also those whose thread was started and hasn't arrived yet.

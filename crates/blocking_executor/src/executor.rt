@@ -167,7 +167,7 @@ impl<J: Job, H: Runtime> Executor<J, H> {
         }
     }
 
-    /// The client for which this share adds its jobs.
+    /// The client for which this share adds its jobs: 0, unless [`for_client`](Executor::for_client) named another.
     pub fn client(&self) -> u32
         ensures { result ≡ self.now.client }
     {

@@ -6,6 +6,15 @@ use std::thread::Threads;
 use std::time::Clock;
 
 /// The handles that polls and workers need: to lock, to wait for a time and to allocate.
+///
+/// What is generic over these alone goes by an executor that somebody else has made:
+///
+/// ```rust
+/// fn is_idle<J: Job, H: Runtime>(executor: &Executor<J, H>) -> bool {
+///     let counts = executor.counts();
+///     counts.running == 0 && counts.queued == 0
+/// }
+/// ```
 pub trait Runtime: Wait + Clock + AllocGlobal + Copy {}
 
 impl<R: Wait + Clock + AllocGlobal + Copy> Runtime for R {}

@@ -56,7 +56,8 @@ impl From<CopyFault> for io::Error {
 }
 
 /// The future of a copy. It reads a piece, writes all of it, and then reads the next. At the end it flushes, and is ready with how many
-/// bytes were written once that is done. The count stays at the greatest number of 64 bits once it is there.
+/// bytes were written once that is done. What a file was given so may not be on the disk yet. The count stays at the
+/// greatest number of 64 bits once it is there.
 ///
 /// It fails with [`CopyFault::Reading`] as soon as the reader fails, with what was written before not flushed. It fails with
 /// [`CopyFault::Writing`] where the writer fails. The fault is [`Fault::WriteZero`](blocking_core::io::Fault::WriteZero) where a write
@@ -90,7 +91,7 @@ impl<A: AsyncRead + Drop, B: AsyncWrite + Drop> Copier<A, B> {
     ghost use Rattle.blocking_io.specs.CopySteps.{is_over, AnswersTo, IfWaits};
 
     /// A copy of all that the reader gives, by pieces of at most so many bytes. It fails, and drops both, where there is no memory for a
-    /// piece; this is the one time that the copier itself asks for memory.
+    /// piece; this is the one time that the copier itself asks for memory. (See the example at [`Copier`].)
     pub fn new(
         alloc: Global,
         reader: A,

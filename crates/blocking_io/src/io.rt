@@ -99,16 +99,24 @@ pub trait AsyncWrite {
         ensures armed { OnPending result (IsArmed cx.new) }
         ensures kept { Keeps cx.old cx.new };
 
-    /// Waits until all that was taken is written and flushed, or answers why it isn't. A fault is told once.
+    /// Waits until all that was taken is written and flushed, or answers why it isn't. A fault is told once. What a file was
+    /// given so may not be on the disk yet: an operation that calls its `sync_all` sees to that.
     ///
     /// A poll that waits has registered, and is polled again.
+    ///
+    /// ```rust
+    /// fn poll(&mut self, cx: &mut Context<'_>) -> Poll<Result<(), IoFault>> {
+    ///     self.writer.poll_flush(cx)
+    /// }
+    /// ```
     fn poll_flush(&mut self, cx: &mut Context<'_>) -> Poll<Result<(), IoFault>>
         ensures same { closed self.new ↔ closed self.old }
         ensures bytes { writes self.old (OfFlush result) self.new }
         ensures armed { OnPending result (IsArmed cx.new) }
         ensures kept { Keeps cx.old cx.new };
 
-    /// Flushes, and then closes. What was open and met a fault is open still, and may be closed again.
+    /// Flushes, and then closes. What was open and met a fault is open still, and may be closed again. Like a flush, this isn't
+    /// the disk.
     ///
     /// A poll that waits has registered, and is polled again.
     fn poll_close(&mut self, cx: &mut Context<'_>) -> Poll<Result<(), IoFault>>
@@ -119,6 +127,16 @@ pub trait AsyncWrite {
 }
 
 /// What is moved to a position by polls.
+///
+/// A function over anything that is moved requires that it is open:
+///
+/// ```rust
+/// fn length<A: AsyncSeek, H: Host>(rt: &H, file: &mut A) -> io::Result<u64>
+///     requires { A.closed file.old → ⊥ }
+/// {
+///     Ok(block_on(rt, file.seek(SeekFrom::End(0)))??)
+/// }
+/// ```
 pub trait AsyncSeek {
     /// Whether it was closed. What is closed isn't moved.
     ghost closed: { Self → Type 0 };

@@ -57,7 +57,8 @@ pub trait AsyncWriteExt: AsyncWrite {
         }
     }
 
-    /// A future that waits until all that was taken is written and flushed, or answers why it isn't. It may be polled again.
+    /// A future that waits until all that was taken is written and flushed, or answers why it isn't. For a file that isn't
+    /// the disk, as [`AsyncWrite::poll_flush`] says. It may be polled again.
     ///
     /// ```rust
     /// block_on(&rt, file.flush())??;
@@ -70,7 +71,8 @@ pub trait AsyncWriteExt: AsyncWrite {
         Flush { writer: self }
     }
 
-    /// A future that flushes, and then closes. After a fault the writer is open still. It may be polled again.
+    /// A future that flushes, and then closes. Where the writer was open and met a fault it is open still. It may be polled
+    /// again.
     ///
     /// ```rust
     /// block_on(&rt, writer.close())??;

@@ -11,7 +11,7 @@ use blocking_executor::Runtime;
 use futures::Future;
 use futures::task::{Context, Poll};
 
-/// The future of [`Unblock::into_inner`].
+/// The future of [`Unblock::into_inner`], which has an example.
 #[derive(Drop)]
 pub struct IntoInner<T: Drop, I: Drop, J: Job, H: Runtime> {
     // The owner, until the handle was taken.

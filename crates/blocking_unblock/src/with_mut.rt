@@ -16,7 +16,7 @@ use futures::Future;
 use futures::task::{Context, Poll};
 use std::mem;
 
-/// The future of [`Unblock::with_mut`].
+/// The future of [`Unblock::with_mut`], which has an example.
 #[derive(Drop)]
 pub struct WithMut<
     'a,
