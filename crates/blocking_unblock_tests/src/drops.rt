@@ -274,6 +274,8 @@ pub(crate) fn dropped_at<F: Future<Output: Drop> + Drop>(
 pub(crate) enum Lasting {
     Operation,
     ReadToEnd,
+    /// (of as many bytes as there are)
+    ReadExact,
     /// (of more bytes than the pipe holds)
     WriteAll,
 }
@@ -284,7 +286,7 @@ fn left_by_rule(lasting: Lasting, point: Point) -> (u64, &'static [u8]) {
     match (lasting, point) {
         (Lasting::Operation, Point::Unpolled) => (0, b""),
         (Lasting::Operation, _) => (TO, b""),
-        (Lasting::ReadToEnd, _) => (3, &[0, 1, 2]),
+        (Lasting::ReadToEnd | Lasting::ReadExact, _) => (3, &[0, 1, 2]),
         (Lasting::WriteAll, Point::Unpolled) => (1, b"z"),
         (Lasting::WriteAll, _) => (5, b"abcdz"),
     }
@@ -336,7 +338,7 @@ impl<S: Lender> Stage<S> {
 // How many bytes a handle has for such a future.
 fn length_for(lasting: Lasting) -> usize {
     match lasting {
-        Lasting::ReadToEnd => 3,
+        Lasting::ReadToEnd | Lasting::ReadExact => 3,
         Lasting::Operation | Lasting::WriteAll => 0,
     }
 }
@@ -357,7 +359,12 @@ pub(crate) fn first_wrong_point<S: Lender>(
 
 #[test]
 fn futures_are_dropped_at_each_point(rt: HostRuntime) -> Result<(), Fail> {
-    for lasting in [Lasting::Operation, Lasting::ReadToEnd, Lasting::WriteAll] {
+    for lasting in [
+        Lasting::Operation,
+        Lasting::ReadToEnd,
+        Lasting::ReadExact,
+        Lasting::WriteAll,
+    ] {
         assert_eq!(rt; first_wrong_of(rt, Trial::Dropping(lasting))?, None);
     }
     Ok(())

@@ -218,6 +218,14 @@ fn drops_read<A: AsyncRead>(
     dropped_at(owner.read_to_end(out), mock, gate, point)
 }
 
+// The same of a read of as many bytes as there are.
+fn drops_exact_read<A: AsyncRead>(owner: &mut A, mock: &MockTask, gate: &Gate, point: Point) -> bool
+    requires { A.closed owner.old → ⊥ }
+{
+    let mut three = [0u8; 3];
+    dropped_at(owner.read_exact(&mut three), mock, gate, point)
+}
+
 // The same of a write of all bytes.
 fn drops_write<A: AsyncWrite>(owner: &mut A, mock: &MockTask, gate: &Gate, point: Point) -> bool
     requires { A.closed owner.old → ⊥ }
@@ -334,6 +342,7 @@ where
         match lasting {
             Lasting::Operation => dropped_at(owner.with_mut(Jump { to: TO }), mock, gate, point),
             Lasting::ReadToEnd => drops_read(owner, out, mock, gate, point),
+            Lasting::ReadExact => drops_exact_read(owner, mock, gate, point),
             Lasting::WriteAll => drops_write(owner, mock, gate, point),
         }
     }
@@ -345,7 +354,7 @@ where
         }
         match lasting {
             Lasting::Operation => Ok(true),
-            Lasting::ReadToEnd => reads_on(&self.rt, owner, out, &[0, 1, 2]),
+            Lasting::ReadToEnd | Lasting::ReadExact => reads_on(&self.rt, owner, out, &[0, 1, 2]),
             Lasting::WriteAll => writes_on(&self.rt, owner),
         }
     }
