@@ -12,7 +12,7 @@ use crate::pool::number::JobNo;
 ///     let Some(piece) = self.pieces.pop() else {
 ///         return JobStep::Done;
 ///     };
-///     self.total += piece.len();
+///     self.total = self.total.saturating_add(piece.len());
 ///     JobStep::Again
 /// }
 /// ```
