@@ -1,0 +1,212 @@
+//! What an observer can see of any script: bytes in order and once, ends and flushes that mean all, faults that are told once.
+use crate::stage::{Ask, Reply, Why};
+use crate::track::{Track, low};
+use std::alloc::{AllocError, Global};
+use std::sync::Arc;
+
+/// A law that was broken.
+pub(crate) type Breach = &'static str;
+
+/// How many bytes of what an owner accepted are kept to compare. (Their room is there from the start.)
+const KEPT: usize = 4_096;
+
+/// How many faults that were told are kept.
+const TOLD: usize = 256;
+
+/// What an owner was told, held against what its handle did.
+#[derive(Drop)]
+pub(crate) struct Observer {
+    pub track: Arc<Track>,
+    // The place in what the handle gave of what the owner gets next.
+    next: usize,
+    // What the owner's writes took, as far as it is kept, and how much that was.
+    accepted: Vec<u8>,
+    count: usize,
+    // Where the session under way began: in what was accepted, and in what the handle took.
+    began: usize,
+    began_at: usize,
+    // How much of what the handle took was compared.
+    compared: usize,
+    // What was accepted since the last fault that was told begins here.
+    since_fault: usize,
+    told: Vec<i32>,
+    // A future was left halfway, so nobody knows how much it took until the handle is back.
+    is_unsure: bool,
+}
+
+impl Observer {
+    pub(crate) fn new(alloc: Global, track: Arc<Track>) -> Result<Observer, AllocError> {
+        Ok(Observer {
+            track,
+            next: 0,
+            accepted: Vec::with_capacity(alloc, KEPT)?,
+            count: 0,
+            began: 0,
+            began_at: 0,
+            compared: 0,
+            since_fault: 0,
+            told: Vec::with_capacity(alloc, TOLD)?,
+            is_unsure: false,
+        })
+    }
+
+    /// Before a poll that finds the handle with its owner: what was read ahead before is lost, and sessions begin anew.
+    pub(crate) fn begins(&mut self) -> Option<Breach> {
+        let breach = self.compares();
+        // (The fault of a session that is stopped for the handle isn't told.)
+        if self.is_unsure || self.told.len() < self.track.faults.len() {
+            self.since_fault = self.count;
+            self.is_unsure = false;
+        }
+        self.next = self.track.gave.len();
+        self.began = self.count;
+        self.began_at = self.track.took.len();
+        self.compared = self.began_at;
+        breach
+    }
+
+    /// Whether what the handle took is a first part of what was accepted in its session.
+    pub(crate) fn compares(&mut self) -> Option<Breach> {
+        let took = self.track.took.len();
+        if self.is_unsure {
+            self.compared = took;
+        }
+        let mut place = self.compared;
+        for _ in self.compared..took {
+            let of_session = place.saturating_sub(self.began_at);
+            let wanted = self.began.saturating_add(of_session);
+            if wanted >= self.count {
+                return Some("the handle took more than was accepted");
+            }
+            if let (Some(byte), Some(taken)) =
+                (self.accepted.get(wanted), self.track.took.get(place))
+                && u32::from(*byte) != taken
+            {
+                return Some("the handle took another byte than was accepted");
+            }
+            place = place.saturating_add(1);
+        }
+        self.compared = place;
+        None
+    }
+
+    /// Bytes that the owner got, in order.
+    pub(crate) fn got(&mut self, bytes: &[u8]) -> Option<Breach> {
+        for byte in bytes.iter() {
+            let breach = self.got_one(u64::from(*byte));
+            if breach.is_some() {
+                return breach;
+            }
+        }
+        None
+    }
+
+    fn got_one(&mut self, item: u64) -> Option<Breach> {
+        if self.is_unsure {
+            return None;
+        }
+        let place = self.next;
+        self.next = place.saturating_add(1);
+        if place >= self.track.gave.len() {
+            return Some("the owner got what its handle didn't give");
+        }
+        match self.track.gave.get(place) {
+            Some(gave) if gave != low(item) => Some("the owner got another than its handle gave"),
+            _ => None,
+        }
+    }
+
+    fn ended(&self) -> Option<Breach> {
+        if !self.is_unsure && self.next != self.track.gave.len() {
+            return Some("an end was told before all was got");
+        }
+        None
+    }
+
+    /// Bytes that a write took.
+    pub(crate) fn wrote(&mut self, bytes: &[u8]) {
+        for byte in bytes.iter() {
+            if self.accepted.len() < KEPT {
+                let _ = self.accepted.push(*byte);
+            }
+        }
+        self.count = self.count.saturating_add(bytes.len());
+    }
+
+    // A flush that went well means all since the last fault that was told: these are the last that the handle took.
+    fn flushed(&mut self) -> Option<Breach> {
+        let all = self.count.saturating_sub(self.since_fault);
+        let took = self.track.took.len();
+        if self.is_unsure {
+            return None;
+        }
+        let Some(from) = took.checked_sub(all) else {
+            return Some("a flush was told before all was written");
+        };
+        let mut place = from;
+        for wanted in self.since_fault..self.count {
+            if let (Some(byte), Some(taken)) =
+                (self.accepted.get(wanted), self.track.took.get(place))
+                && u32::from(*byte) != taken
+            {
+                return Some("a flush was told and other bytes were written");
+            }
+            place = place.saturating_add(1);
+        }
+        None
+    }
+
+    /// A future was dropped halfway.
+    pub(crate) fn is_left(&mut self) {
+        self.is_unsure = true;
+    }
+
+    /// A write, a flush or a close failed, and with it the rest of its session.
+    pub(crate) fn loses(&mut self) {
+        self.since_fault = self.count;
+    }
+
+    /// A fault was told.
+    pub(crate) fn failed(&mut self, why: Why) -> Option<Breach> {
+        let Why::System(number) = why else {
+            return None;
+        };
+        if self.told.len() < TOLD {
+            let _ = self.told.push(number);
+        }
+        let told = self.told.iter().filter(|it| **it == number).count();
+        let given = (0..self.track.faults.len())
+            .filter(|place| self.track.faults.get(*place) == Some(number.unsigned_abs()))
+            .count();
+        if told > given {
+            return Some("a fault was told more than once");
+        }
+        None
+    }
+
+    /// What a call was answered. What was read is at the buffer's front.
+    pub(crate) fn answered(&mut self, ask: &Ask, reply: Reply, room: &[u8]) -> Option<Breach> {
+        match (ask, reply) {
+            (Ask::Read(wanted), Reply::Read(0)) if *wanted > 0 => self.ended(),
+            (_, Reply::Read(count)) => self.got(room.get(..count).unwrap_or(&[])),
+            (_, Reply::Item(item)) => self.got_one(item),
+            (_, Reply::NoMore) => self.ended(),
+            (Ask::Flush | Ask::Close, Reply::Done) => self.flushed(),
+            (Ask::Flush | Ask::Close, Reply::Failed(why)) => {
+                self.loses();
+                self.failed(why)
+            }
+            (_, Reply::Failed(why)) => self.failed(why),
+            _ => None,
+        }
+    }
+
+    /// At the end, once all rests: its handle went once.
+    pub(crate) fn is_over(&mut self) -> Option<Breach> {
+        match self.track.gone() {
+            1 => self.compares(),
+            0 => Some("a handle was never dropped"),
+            _ => Some("a handle was dropped twice"),
+        }
+    }
+}

@@ -1,0 +1,170 @@
+//! Plays scripts on real threads, and checks what an observer can see of them:
+//!
+//! - `blk_play` plays the script that it reads;
+//! - `blk_play --draw SEED LINES WORKERS` plays one that it draws;
+//! - `blk_play --show SEED LINES WORKERS` writes that.
+//!
+//! With `--seconds N` behind, a run ends after so many seconds at most.
+#![tactic(auto)]
+
+mod apart;
+mod call;
+mod called;
+mod check;
+mod copying;
+mod desk;
+mod draw;
+mod gates;
+mod handle;
+mod line;
+mod owned;
+mod owner;
+mod patience;
+mod plan;
+mod player;
+mod pool;
+mod script;
+mod shown;
+mod stage;
+mod tasks;
+mod threads;
+mod track;
+mod waiter;
+mod words;
+mod work;
+
+use crate::apart::{Setup, play_script};
+use crate::draw::draw;
+use crate::gates::Gates;
+use crate::pool::{AllInside, Pool, System};
+use crate::script::read_script;
+use crate::words::number_of;
+use crate::work::Work;
+use blocking::Executor;
+use std::io::Read;
+use std::process::ExitCode;
+use std::sync::Arc;
+use std::sync::atomic::{AtomicBool, Ordering};
+use std::time::Duration;
+use std::{env, io, thread};
+
+const USAGE: &str = "usage: blk_play [--draw|--show SEED LINES WORKERS] [--seconds N]";
+
+// After how many seconds a run ends at most.
+const SECONDS: u64 = 100;
+
+// What a command line asks for.
+#[derive(Clone, Copy)]
+struct Request {
+    drawn: Option<(u64, u64, u64)>,
+    // Whether what is drawn is written, and not played.
+    is_shown: bool,
+    seconds: u64,
+}
+
+// The numbers of the next three words.
+fn three_of(words: &[String]) -> Option<(u64, u64, u64)> {
+    match words {
+        [first, second, third] => Some((
+            number_of(first.as_str())?,
+            number_of(second.as_str())?,
+            number_of(third.as_str())?,
+        )),
+        _ => None,
+    }
+}
+
+fn request_of(words: &[String]) -> Option<Request> {
+    let (words, seconds) = match words {
+        [before @ .., flag, number] if flag.as_str() == "--seconds" => {
+            (before, number_of(number.as_str())?)
+        }
+        _ => (words, SECONDS),
+    };
+    match words {
+        [] => Some(Request {
+            drawn: None,
+            is_shown: false,
+            seconds,
+        }),
+        [flag, numbers @ ..] => {
+            let is_shown = flag.as_str() == "--show";
+            if !is_shown && flag.as_str() != "--draw" {
+                return None;
+            }
+            Some(Request {
+                drawn: Some(three_of(numbers)?),
+                is_shown,
+                seconds,
+            })
+        }
+    }
+}
+
+// Sets the flag once a run's time is over.
+fn end_after<H: System>(rt: H, is_over: Arc<AtomicBool>, seconds: u64) -> io::Result<()> {
+    let watch = move || -> () {
+        thread::sleep(&rt, Duration::from_secs(seconds));
+        is_over.store(true, Ordering::SeqCst);
+    };
+    let _ = thread::spawn(&rt, watch)?;
+    Ok(())
+}
+
+// Plays a script, and says its status.
+fn play<H: System>(rt: H, text: &str, seconds: u64) -> io::Result<u8> {
+    let script = match read_script(rt.alloc(), text) {
+        Ok(script) => script,
+        Err(line) => {
+            let told = format!(in rt.alloc(); "line {line}: not a step")?;
+            rt.println(told)?;
+            return Ok(2);
+        }
+    };
+    let is_over = Arc::new(rt.alloc(), AtomicBool::new(false))?;
+    let gates = Arc::new(rt.alloc(), Gates::new(rt.alloc(), Arc::try_clone(&is_over)?)?)?;
+    let inside = Arc::new(rt.alloc(), AllInside::new(rt.alloc())?)?;
+    let script = Arc::new(rt.alloc(), script)?;
+    let setup = Setup {
+        script: Arc::try_clone(&script)?,
+        gates: Arc::try_clone(&gates)?,
+        is_over: Arc::try_clone(&is_over)?,
+    };
+    let setting = script.setting.as_ref().map(|text| text.as_str());
+    end_after(rt, is_over, seconds)?;
+    match Executor::<Work<H>, H>::new(rt, setting) {
+        Ok(executor) => play_script(rt, Pool::new(rt, executor, gates, inside)?, setup),
+        Err(_) => Ok(1),
+    }
+}
+
+// The text that is read, if it is one.
+fn read_text<R: Read + Drop, H: System>(rt: H, mut input: R) -> io::Result<Option<String>> {
+    let mut bytes = Vec::new(rt.alloc());
+    input.read_to_end(&mut bytes)?;
+    Ok(String::from_utf8(bytes).ok())
+}
+
+fn main(rt: HostRuntime) -> io::Result<ExitCode> {
+    let mut words = Vec::new(rt.alloc());
+    for word in env::args(&rt)?.skip(1) {
+        words.push(word)?;
+    }
+    let Some(request) = request_of(words.as_slice()) else {
+        rt.eprintln(USAGE)?;
+        return Ok(ExitCode::from(2));
+    };
+    let text = match request.drawn {
+        Some((seed, lines, workers)) => Some(draw(rt.alloc(), seed, lines, workers)?),
+        None => read_text(rt, rt.stdin())?,
+    };
+    let Some(text) = text else {
+        rt.eprintln("blk_play: not a text")?;
+        return Ok(ExitCode::from(2));
+    };
+    if request.is_shown {
+        print!(rt; "{text}")?;
+        return Ok(ExitCode::SUCCESS);
+    }
+    Ok(ExitCode::from(play(rt, text.as_str(), request.seconds)?))
+}

@@ -1,0 +1,361 @@
+//! The owner of a scripted handle, over any pool that carries its jobs.
+use crate::handle::{Handle, Jump};
+use crate::patience::Patience;
+use crate::stage::{Ask, Lasting, Owner, Reply, Why};
+use crate::work::Carrier;
+use blocking::{
+    AsyncRead, AsyncReadExt, AsyncSeek, AsyncWrite, AsyncWriteExt, IntoInner, IoFault, Runtime,
+    Unblock,
+};
+use blocking_core::io::Fault;
+use blocking_core::pool::{Job, Refusal, Refused};
+use futures::task::{Context, Poll};
+use futures::test::MockTask;
+use futures::{Future, Stream};
+use std::fmt::Write;
+use std::io;
+use std::io::{ErrorKind, SeekFrom};
+
+/// How often a future is polled that has to answer.
+pub(crate) const POLLS: u32 = 1_000;
+
+type Lent<J, H> = Unblock<Handle, u64, J, H>;
+
+/// An owner, or what is left of one whose handle was asked for for good.
+#[derive(Drop)]
+pub(crate) enum Lending<J: Job, H: Runtime> {
+    Owner(Lent<J, H>),
+    Taking(IntoInner<Handle, u64, J, H>),
+    Taken(Handle),
+    Nothing,
+}
+
+/// What the fault of a call is.
+pub(crate) fn why_of(fault: &IoFault) -> Why {
+    match fault {
+        Fault::Io(error) => match error.raw_os_error() {
+            Some(number) => Why::System(number),
+            None if error.kind() == ErrorKind::UnexpectedEof => Why::Early,
+            None => Why::Input,
+        },
+        Fault::WriteZero => Why::WriteZero,
+        Fault::Refused(why) => Why::Refused(*why),
+    }
+}
+
+fn failed(fault: IoFault) -> Reply {
+    Reply::Failed(why_of(&fault))
+}
+
+fn done(came: Poll<Result<(), IoFault>>) -> Poll<Reply> {
+    match came {
+        Poll::Pending => Poll::Pending,
+        Poll::Ready(Ok(())) => Poll::Ready(Reply::Done),
+        Poll::Ready(Err(fault)) => Poll::Ready(failed(fault)),
+    }
+}
+
+fn read_once<A: AsyncRead>(owner: &mut A, cx: &mut Context<'_>, room: &mut [u8]) -> Poll<Reply>
+    requires { A.closed owner.old → ⊥ }
+{
+    match owner.poll_read(cx, room) {
+        Poll::Pending => Poll::Pending,
+        Poll::Ready(Ok(count)) => Poll::Ready(Reply::Read(count)),
+        Poll::Ready(Err(fault)) => Poll::Ready(failed(fault)),
+    }
+}
+
+fn write_once<A: AsyncWrite>(owner: &mut A, cx: &mut Context<'_>, bytes: &[u8]) -> Poll<Reply>
+    requires { A.closed owner.old → ⊥ }
+{
+    match owner.poll_write(cx, bytes) {
+        Poll::Pending => Poll::Pending,
+        Poll::Ready(Ok(count)) => Poll::Ready(Reply::Wrote(count)),
+        Poll::Ready(Err(fault)) => Poll::Ready(failed(fault)),
+    }
+}
+
+fn next_once<A: Stream<Item = Result<u64, Refusal>>>(
+    owner: &mut A,
+    cx: &mut Context<'_>,
+) -> Poll<Reply>
+    requires { A.can_poll owner.old }
+{
+    match owner.poll_next(cx) {
+        Poll::Pending => Poll::Pending,
+        Poll::Ready(Some(Ok(item))) => Poll::Ready(Reply::Item(item)),
+        Poll::Ready(Some(Err(why))) => Poll::Ready(Reply::Failed(Why::Refused(why))),
+        Poll::Ready(None) => Poll::Ready(Reply::NoMore),
+    }
+}
+
+fn seek_once<A: AsyncSeek>(owner: &mut A, cx: &mut Context<'_>, to: SeekFrom) -> Poll<Reply>
+    requires { A.closed owner.old → ⊥ }
+{
+    match owner.poll_seek(cx, to) {
+        Poll::Pending => Poll::Pending,
+        Poll::Ready(Ok(place)) => Poll::Ready(Reply::Number(place)),
+        Poll::Ready(Err(fault)) => Poll::Ready(failed(fault)),
+    }
+}
+
+fn handle_once<J: Job, H: Runtime>(owner: &mut Lent<J, H>, cx: &mut Context<'_>) -> Poll<Reply> {
+    if owner.is_closed() {
+        return Poll::Ready(Reply::Nothing);
+    }
+    match owner.poll_get_mut(cx) {
+        Poll::Pending => Poll::Pending,
+        Poll::Ready(handle) => Poll::Ready(Reply::Handle(handle.place())),
+    }
+}
+
+// What an operation answers; one that is refused comes back.
+fn result_of(came: Result<u64, Refused<Jump>>) -> Reply {
+    match came {
+        Ok(number) => Reply::Number(number),
+        Err(Refused { back: _, why }) => Reply::Refused(why),
+    }
+}
+
+// What one poll of a new operation shows, which is given up then.
+fn operate_once<J: Carrier<H>, H: Runtime + Drop>(
+    owner: &mut Lent<J, H>,
+    task: &MockTask,
+    to: u64,
+) -> Poll<Reply> {
+    if owner.is_closed() {
+        return Poll::Ready(Reply::Nothing);
+    }
+    let mut jump = owner.with_mut(Jump { to });
+    match task.poll(&mut jump) {
+        Poll::Pending => Poll::Pending,
+        Poll::Ready(came) => Poll::Ready(result_of(came)),
+    }
+}
+
+// What one poll of a call shows that is neither an operation nor asks for the handle for good.
+fn polled<J: Carrier<H>, H: Runtime + Drop>(
+    owner: &mut Lent<J, H>,
+    cx: &mut Context<'_>,
+    ask: &Ask,
+    room: &mut [u8],
+) -> Poll<Reply> {
+    match ask {
+        Ask::Flush => done(owner.poll_flush(cx)),
+        Ask::Close => done(owner.poll_close(cx)),
+        _ if owner.is_closed() => Poll::Ready(Reply::Nothing),
+        Ask::Read(_) => read_once(owner, cx, room),
+        Ask::Next => next_once(owner, cx),
+        Ask::Seek(to) => seek_once(owner, cx, *to),
+        Ask::Handle => handle_once(owner, cx),
+        Ask::Write(_) | Ask::Operate(_) | Ask::Inner => Poll::Ready(Reply::Nothing),
+    }
+}
+
+fn write_if_open<J: Carrier<H>, H: Runtime + Drop>(
+    owner: &mut Lent<J, H>,
+    cx: &mut Context<'_>,
+    bytes: &[u8],
+) -> Poll<Reply> {
+    if owner.is_closed() {
+        return Poll::Ready(Reply::Nothing);
+    }
+    write_once(owner, cx, bytes)
+}
+
+/// What a future gives that is polled again after each wake; None where no wake comes.
+pub(crate) fn awaited<F: Future<Output: Drop> + Drop>(
+    mut future: F,
+    task: &MockTask,
+    patience: &Patience,
+) -> Option<F::Output>
+    requires { F.can_poll future }
+{
+    for _ in 0..POLLS {
+        match task.poll(&mut future) {
+            Poll::Ready(output) => return Some(output),
+            Poll::Pending if patience.until(|| task.is_woken()) => {}
+            Poll::Pending => return None,
+        }
+    }
+    None
+}
+
+// Polls a future once, and drops it once that holds. Whether it waited, and that came to hold.
+fn left<F: Future<Output: Drop> + Drop, M: Fn() -> bool>(
+    mut future: F,
+    task: &MockTask,
+    patience: &Patience,
+    met: M,
+) -> bool
+    requires ready { F.can_poll future }
+    requires callable { M.IsAlwaysCallable met }
+{
+    task.poll(&mut future).is_pending() && patience.until(met)
+}
+
+fn reads_exactly<A: AsyncRead>(
+    owner: &mut A,
+    task: &MockTask,
+    patience: &Patience,
+    room: &mut [u8],
+) -> Poll<Reply>
+    requires { A.closed owner.old → ⊥ }
+{
+    let count = room.len();
+    match awaited(owner.read_exact(room), task, patience) {
+        None => Poll::Pending,
+        Some(Ok(())) => Poll::Ready(Reply::Read(count)),
+        Some(Err(fault)) => Poll::Ready(failed(fault)),
+    }
+}
+
+fn reads_rest<A: AsyncRead>(
+    owner: &mut A,
+    task: &MockTask,
+    patience: &Patience,
+    out: &mut Vec<u8>,
+) -> Poll<Reply>
+    requires { A.closed owner.old → ⊥ }
+{
+    match awaited(owner.read_to_end(out), task, patience) {
+        None => Poll::Pending,
+        Some(Ok(count)) => Poll::Ready(Reply::Read(count)),
+        Some(Err(fault)) => Poll::Ready(failed(fault)),
+    }
+}
+
+fn writes_all<A: AsyncWrite>(
+    owner: &mut A,
+    task: &MockTask,
+    patience: &Patience,
+    bytes: &[u8],
+) -> Poll<Reply>
+    requires { A.closed owner.old → ⊥ }
+{
+    match awaited(owner.write_all(bytes), task, patience) {
+        None => Poll::Pending,
+        Some(Ok(())) => Poll::Ready(Reply::Done),
+        Some(Err(fault)) => Poll::Ready(failed(fault)),
+    }
+}
+
+impl<J: Carrier<H>, H: Runtime + Drop> Lending<J, H> {
+    // Polls for the handle, for good.
+    fn take_back(&mut self, task: &MockTask) -> Poll<Reply> {
+        *self = match std::mem::replace(self, Lending::Nothing) {
+            Lending::Owner(owner) if !owner.is_closed() => Lending::Taking(owner.into_inner()),
+            other => other,
+        };
+        let Lending::Taking(taking) = self else {
+            return Poll::Ready(Reply::Nothing);
+        };
+        if taking.is_taken() {
+            return Poll::Ready(Reply::Nothing);
+        }
+        match task.poll(taking) {
+            Poll::Pending => Poll::Pending,
+            Poll::Ready(handle) => {
+                let place = handle.place();
+                *self = Lending::Taken(handle);
+                Poll::Ready(Reply::Handle(place))
+            }
+        }
+    }
+}
+
+impl<J: Carrier<H>, H: Runtime + Drop> Owner for Lending<J, H> {
+    fn is_closed(&self) -> bool {
+        match self {
+            Lending::Owner(owner) => owner.is_closed(),
+            Lending::Taking(_) | Lending::Taken(_) | Lending::Nothing => true,
+        }
+    }
+
+    fn is_idle(&mut self) -> bool {
+        match self {
+            Lending::Owner(owner) => owner.handle_mut().is_some(),
+            Lending::Taking(_) | Lending::Taken(_) | Lending::Nothing => false,
+        }
+    }
+
+    fn set_client(&mut self, client: u32) {
+        *self = match std::mem::replace(self, Lending::Nothing) {
+            Lending::Owner(owner) => Lending::Owner(owner.for_client(client)),
+            other => other,
+        };
+    }
+
+    fn poll(&mut self, task: &MockTask, ask: &Ask, room: &mut [u8]) -> Poll<Reply> {
+        if let Ask::Inner = ask {
+            return self.take_back(task);
+        }
+        let Lending::Owner(owner) = self else {
+            return Poll::Ready(Reply::Nothing);
+        };
+        match ask {
+            Ask::Operate(to) => operate_once(owner, task, *to),
+            _ => task.enter(|cx| polled(owner, cx, ask, room)),
+        }
+    }
+
+    fn write(&mut self, task: &MockTask, bytes: &[u8]) -> Poll<Reply> {
+        match self {
+            Lending::Owner(owner) => task.enter(|cx| write_if_open(owner, cx, bytes)),
+            Lending::Taking(_) | Lending::Taken(_) | Lending::Nothing => {
+                Poll::Ready(Reply::Nothing)
+            }
+        }
+    }
+
+    fn finish(
+        &mut self,
+        task: &MockTask,
+        patience: &Patience,
+        lasting: Lasting<'_>,
+    ) -> Poll<Reply> {
+        let Lending::Owner(owner) = self else {
+            return Poll::Ready(Reply::Nothing);
+        };
+        if owner.is_closed() {
+            return Poll::Ready(Reply::Nothing);
+        }
+        match lasting {
+            Lasting::Exact(room) => reads_exactly(owner, task, patience, room),
+            Lasting::Rest(out) => reads_rest(owner, task, patience, out),
+            Lasting::Whole(bytes) => writes_all(owner, task, patience, bytes),
+            Lasting::Jump(to) => match awaited(owner.with_mut(Jump { to }), task, patience) {
+                None => Poll::Pending,
+                Some(came) => Poll::Ready(result_of(came)),
+            },
+        }
+    }
+
+    fn leave<F: Fn() -> bool>(
+        &mut self,
+        task: &MockTask,
+        patience: &Patience,
+        lasting: Lasting<'_>,
+        met: F,
+    ) -> bool {
+        let Lending::Owner(owner) = self else {
+            return false;
+        };
+        if owner.is_closed() {
+            return false;
+        }
+        match lasting {
+            Lasting::Exact(room) => left(owner.read_exact(room), task, patience, met),
+            Lasting::Rest(out) => left(owner.read_to_end(out), task, patience, met),
+            Lasting::Whole(bytes) => left(owner.write_all(bytes), task, patience, met),
+            Lasting::Jump(to) => left(owner.with_mut(Jump { to }), task, patience, met),
+        }
+    }
+
+    fn say(&self, text: &mut String) -> io::Result<()> {
+        if let Lending::Owner(owner) = self {
+            return Ok(write!(text, "{owner:?}")?);
+        }
+        Ok(text.push_str("taken")?)
+    }
+}

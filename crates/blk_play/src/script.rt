@@ -1,0 +1,129 @@
+//! Scripts: the text of the pool's setting, and the lines.
+use crate::line::{Block, Line, line_of, room_of};
+use crate::words::LineFault;
+use std::alloc::{AllocError, Global};
+
+/// A line, with whether it is tried again where it is refused.
+#[derive(Drop)]
+pub(crate) struct Numbered {
+    pub line: Line,
+    pub is_tried: bool,
+    /// How many parties it names, if several.
+    pub text: String,
+}
+
+/// A script.
+#[derive(Drop)]
+pub(crate) struct Script {
+    pub setting: Option<String>,
+    pub lines: Vec<Numbered>,
+    /// How many bytes are read at once, at most.
+    pub room: usize,
+}
+
+/// The first line that is none, counted from 1; or 0 where there was no memory.
+pub(crate) type BadLine = usize;
+
+fn bad(number: usize, fault: LineFault) -> BadLine {
+    match fault {
+        LineFault::NotALine => number,
+        LineFault::Memory => 0,
+    }
+}
+
+// Reads one line that isn't empty.
+fn read_numbered(alloc: Global, text: &str) -> Result<Numbered, LineFault> {
+    let (is_tried, text) = match text.strip_prefix("try ") {
+        Some(rest) => (true, rest),
+        None => (false, text),
+    };
+    Ok(Numbered {
+        line: line_of(alloc, text)?,
+        is_tried,
+        text: String::from_str(alloc, text)?,
+    })
+}
+
+// Reads all lines.
+fn read_lines(alloc: Global, script: &mut Script, text: &str) -> Result<(), BadLine> {
+    let mut number = 0usize;
+    for line in text.split('\n') {
+        number = number.saturating_add(1);
+        if line.is_empty() || line.starts_with('#') {
+            continue;
+        }
+        if let Some(setting) = line.strip_prefix("pool ")
+            && script.lines.is_empty()
+        {
+            let setting = String::from_str(alloc, setting);
+            script.setting = Some(setting.or(Err(0usize))?);
+            continue;
+        }
+        match read_numbered(alloc, line) {
+            Ok(read) => {
+                script.room = script.room.max(room_of(&read.line));
+                script.lines.push(read).or(Err(0usize))?;
+            }
+            Err(fault) => return Err(bad(number, fault)),
+        }
+    }
+    Ok(())
+}
+
+// The place of a block's end, which begins behind this place.
+fn end_of(lines: &[Numbered], begin: usize) -> Option<usize> {
+    let mut depth = 1usize;
+    for (place, numbered) in lines.iter().enumerate().skip(begin) {
+        match numbered.line {
+            Line::Begin(..) => depth = depth.saturating_add(1),
+            Line::End => depth = depth.saturating_sub(1),
+            _ => {}
+        }
+        if depth == 0 {
+            return Some(place);
+        }
+    }
+    None
+}
+
+// Notes where each block ends. Whether each has its end, and each end its block.
+fn find_ends(lines: &mut [Numbered]) -> bool {
+    let mut open = 0usize;
+    for place in 0..lines.len() {
+        let end = end_of(lines, place.saturating_add(1));
+        match lines.get_mut(place) {
+            Some(Numbered {
+                line: Line::Begin(_, length),
+                ..
+            }) => match end {
+                Some(end) => {
+                    *length = end.saturating_sub(place);
+                    open = open.saturating_add(1);
+                }
+                None => return false,
+            },
+            Some(Numbered {
+                line: Line::End, ..
+            }) => match open.checked_sub(1) {
+                Some(left) => open = left,
+                None => return false,
+            },
+            _ => {}
+        }
+    }
+    true
+}
+
+/// Reads a script.
+pub(crate) fn read_script(alloc: Global, text: &str) -> Result<Script, BadLine> {
+    let mut script = Script {
+        setting: None,
+        lines: Vec::new(alloc),
+        room: 0,
+    };
+    read_lines(alloc, &mut script, text)?;
+    if find_ends(script.lines.as_mut_slice()) {
+        return Ok(script);
+    }
+    Err(text.split('\n').count())
+}
