@@ -8,11 +8,10 @@ use crate::pool::{Pool, System};
 use crate::script::{Numbered, Script};
 use crate::stage::Stage;
 use crate::work::Carrier;
-use std::io;
 use std::sync::Arc;
 use std::sync::atomic::AtomicBool;
-use std::thread;
 use std::thread::JoinHandle;
+use std::{io, thread};
 
 /// What a thread's lines showed, and the law that they broke.
 #[derive(Drop)]
@@ -89,7 +88,10 @@ impl<J: Carrier<H> + Send + 'static, H: System> Ensemble<J, H> {
 
     // Waits for a thread, and writes what its lines showed.
     fn join(&mut self, number: usize) -> io::Result<()> {
-        let thread = self.threads.get_mut(number).and_then(|thread| thread.take());
+        let thread = self
+            .threads
+            .get_mut(number)
+            .and_then(|thread| thread.take());
         let Some(thread) = thread else {
             return self.player.stage.say("nothing");
         };
@@ -126,7 +128,9 @@ impl<J: Carrier<H> + Send + 'static, H: System> Ensemble<J, H> {
         let mut place = 0usize;
         for _ in 0..lines.len() {
             let next = next_of_threads(lines, place);
-            let flow = self.player.play(lines.get(place..next).unwrap_or(&[]), DEPTH)?;
+            let flow = self
+                .player
+                .play(lines.get(place..next).unwrap_or(&[]), DEPTH)?;
             if flow != Flow::GoesOn {
                 return Ok(flow);
             }

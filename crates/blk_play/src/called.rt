@@ -84,7 +84,11 @@ impl<T: Awaits> Called<T> {
             TaskLine::Asleep => whether(self.waker.is_woken(), "woken", "asleep"),
             TaskLine::Made => whether(self.track.made() > 0, "made", "unmade"),
             TaskLine::SoonMade => {
-                whether(desk.patience.until(|| self.track.made() > 0), "made", "unmade")
+                whether(
+                    desk.patience.until(|| self.track.made() > 0),
+                    "made",
+                    "unmade",
+                )
             }
             TaskLine::Dropped => Shown::Count("dropped", self.track.dropped()),
             TaskLine::SoonDropped(times) => {
@@ -155,7 +159,14 @@ impl Waiting {
                 if goes && track.steps() == steps {
                     return Shown::Count("dropped after", steps);
                 }
-                Shown::Count(if goes { "dropped at step" } else { "there at step" }, track.steps())
+                Shown::Count(
+                    if goes {
+                        "dropped at step"
+                    } else {
+                        "there at step"
+                    },
+                    track.steps(),
+                )
             }
             JobLine::Drops => Shown::Count("drops", track.begun_drops()),
         }
@@ -170,9 +181,8 @@ pub(crate) struct Copied<C: Copies> {
     pub waker: MockTask,
     pub reader: Arc<Track>,
     pub writer: Arc<Track>,
-    /// Where the copy began, in what the reader gave and in what the writer took.
-    pub from: usize,
-    pub to: usize,
+    /// Where the copy began, in what the reader gave and in what the writer took; None where nobody knows.
+    pub places: Option<(usize, usize)>,
 }
 
 impl<C: Copies> Copied<C> {
@@ -196,9 +206,10 @@ impl<C: Copies> Copied<C> {
 
     // What the writer took is a first part of what the reader gave; all of it where the copy is done.
     fn breach(&self, copying: Copying) -> Option<Breach> {
+        let (from, to) = self.places?;
         let took = self.writer.took.len();
-        let mut place = self.from;
-        for taken in self.to..took {
+        let mut place = from;
+        for taken in to..took {
             if self.writer.took.get(taken).is_some()
                 && self.writer.took.get(taken) != self.reader.gave.get(place)
             {
@@ -208,7 +219,7 @@ impl<C: Copies> Copied<C> {
         }
         let gave = self.reader.gave.len();
         match copying {
-            Copying::Copied(count) if place != gave || took as u64 != count => {
+            Copying::Copied(count) if place != gave || took.saturating_sub(to) as u64 != count => {
                 Some("a copy was done before all was written")
             }
             _ if place > gave => Some("a copy wrote more than was read"),

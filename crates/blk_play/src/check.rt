@@ -13,6 +13,23 @@ const KEPT: usize = 4_096;
 /// How many faults that were told are kept.
 const TOLD: usize = 256;
 
+/// What goes on as long as an owner is asked for nothing else.
+#[derive(Clone, Copy, PartialEq, Eq)]
+pub(crate) enum Session {
+    Reads,
+    Items,
+    Other,
+}
+
+/// The session that a call is of.
+pub(crate) fn session_of(ask: &Ask) -> Session {
+    match ask {
+        Ask::Read(_) => Session::Reads,
+        Ask::Next => Session::Items,
+        _ => Session::Other,
+    }
+}
+
 /// What an owner was told, held against what its handle did.
 #[derive(Drop)]
 pub(crate) struct Observer {
@@ -30,6 +47,9 @@ pub(crate) struct Observer {
     // What was accepted since the last fault that was told begins here.
     since_fault: usize,
     told: Vec<i32>,
+    session: Session,
+    // A session was stopped, so what was read ahead is lost: what comes next stands further on in what the handle gave.
+    is_stopped: bool,
     // A future was left halfway, so nobody knows how much it took until the handle is back.
     is_unsure: bool,
 }
@@ -46,19 +66,34 @@ impl Observer {
             compared: 0,
             since_fault: 0,
             told: Vec::with_capacity(alloc, TOLD)?,
+            session: Session::Other,
+            is_stopped: false,
             is_unsure: false,
         })
     }
 
-    /// Before a poll that finds the handle with its owner: what was read ahead before is lost, and sessions begin anew.
-    pub(crate) fn begins(&mut self) -> Option<Breach> {
+    /// Before a poll of this session, which finds the handle with its owner or not.
+    pub(crate) fn looks(&mut self, session: Session, is_idle: bool) -> Option<Breach> {
+        let breach = if is_idle {
+            self.begins()
+        } else {
+            self.is_stopped = self.is_stopped || session != self.session;
+            self.compares()
+        };
+        self.session = session;
+        breach
+    }
+
+    // Where the handle is with its owner: what was read ahead before is lost, and sessions begin anew.
+    fn begins(&mut self) -> Option<Breach> {
         let breach = self.compares();
         // (The fault of a session that is stopped for the handle isn't told.)
-        if self.is_unsure || self.told.len() < self.track.faults.len() {
+        if self.is_unsure {
             self.since_fault = self.count;
             self.is_unsure = false;
         }
         self.next = self.track.gave.len();
+        self.is_stopped = false;
         self.began = self.count;
         self.began_at = self.track.took.len();
         self.compared = self.began_at;
@@ -66,8 +101,10 @@ impl Observer {
     }
 
     /// Whether what the handle took is a first part of what was accepted in its session.
-    pub(crate) fn compares(&mut self) -> Option<Breach> {
+    fn compares(&mut self) -> Option<Breach> {
         let took = self.track.took.len();
+        // (A fault that wasn't told dropped the rest of its session.)
+        self.is_unsure = self.is_unsure || self.told.len() != self.track.faults.len();
         if self.is_unsure {
             self.compared = took;
         }
@@ -78,8 +115,10 @@ impl Observer {
             if wanted >= self.count {
                 return Some("the handle took more than was accepted");
             }
-            if let (Some(byte), Some(taken)) =
-                (self.accepted.get(wanted), self.track.took.get(place))
+            if let (Some(byte), Some(taken)) = (
+                self.accepted.get(wanted),
+                self.track.took.get(place),
+            )
                 && u32::from(*byte) != taken
             {
                 return Some("the handle took another byte than was accepted");
@@ -92,6 +131,7 @@ impl Observer {
 
     /// Bytes that the owner got, in order.
     pub(crate) fn got(&mut self, bytes: &[u8]) -> Option<Breach> {
+        self.goes_on_at(bytes);
         for byte in bytes.iter() {
             let breach = self.got_one(u64::from(*byte));
             if breach.is_some() {
@@ -99,6 +139,33 @@ impl Observer {
             }
         }
         None
+    }
+
+    // Finds where what came stands, behind a session that was stopped.
+    fn goes_on_at(&mut self, bytes: &[u8]) {
+        if self.is_stopped && !bytes.is_empty() {
+            let is_there = |from: &usize| {
+                let mut place = *from;
+                bytes.iter().all(|byte| {
+                    let is_so = self.track.gave.get(place) == Some(u32::from(*byte));
+                    place = place.saturating_add(1);
+                    is_so
+                })
+            };
+            let found = (self.next..self.track.gave.len()).find(is_there);
+            self.next = found.unwrap_or(self.next);
+            self.is_stopped = false;
+        }
+    }
+
+    fn got_item(&mut self, item: u64) -> Option<Breach> {
+        if self.is_stopped {
+            let is_there = |place: &usize| self.track.gave.get(*place) == Some(low(item));
+            let found = (self.next..self.track.gave.len()).find(is_there);
+            self.next = found.unwrap_or(self.next);
+            self.is_stopped = false;
+        }
+        self.got_one(item)
     }
 
     fn got_one(&mut self, item: u64) -> Option<Breach> {
@@ -117,7 +184,7 @@ impl Observer {
     }
 
     fn ended(&self) -> Option<Breach> {
-        if !self.is_unsure && self.next != self.track.gave.len() {
+        if !self.is_unsure && !self.is_stopped && self.next != self.track.gave.len() {
             return Some("an end was told before all was got");
         }
         None
@@ -145,8 +212,10 @@ impl Observer {
         };
         let mut place = from;
         for wanted in self.since_fault..self.count {
-            if let (Some(byte), Some(taken)) =
-                (self.accepted.get(wanted), self.track.took.get(place))
+            if let (Some(byte), Some(taken)) = (
+                self.accepted.get(wanted),
+                self.track.took.get(place),
+            )
                 && u32::from(*byte) != taken
             {
                 return Some("a flush was told and other bytes were written");
@@ -189,7 +258,7 @@ impl Observer {
         match (ask, reply) {
             (Ask::Read(wanted), Reply::Read(0)) if *wanted > 0 => self.ended(),
             (_, Reply::Read(count)) => self.got(room.get(..count).unwrap_or(&[])),
-            (_, Reply::Item(item)) => self.got_one(item),
+            (_, Reply::Item(item)) => self.got_item(item),
             (_, Reply::NoMore) => self.ended(),
             (Ask::Flush | Ask::Close, Reply::Done) => self.flushed(),
             (Ask::Flush | Ask::Close, Reply::Failed(why)) => {
@@ -199,6 +268,23 @@ impl Observer {
             (_, Reply::Failed(why)) => self.failed(why),
             _ => None,
         }
+    }
+
+    /// Where a copy that begins now reads on in what the handle gives; None where nobody knows.
+    pub(crate) fn reads_on_at(&mut self, is_idle: bool) -> Option<usize> {
+        let breach = self.looks(Session::Reads, is_idle);
+        let is_sure = breach.is_none() && !self.is_unsure && !self.is_stopped;
+        self.is_unsure = true;
+        is_sure.then_some(self.next)
+    }
+
+    /// Where one that begins now writes on in what the handle takes; None where nobody knows.
+    pub(crate) fn writes_on_at(&mut self, is_idle: bool) -> Option<usize> {
+        let breach = self.looks(Session::Other, is_idle);
+        let is_sure = breach.is_none() && !self.is_unsure;
+        self.is_unsure = true;
+        let pending = self.count.saturating_sub(self.began);
+        is_sure.then_some(self.began_at.saturating_add(pending))
     }
 
     /// At the end, once all rests: its handle went once.

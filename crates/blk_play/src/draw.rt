@@ -74,7 +74,10 @@ impl Drawing {
     // An owner, and what its handle has and answers.
     fn owner(&mut self) -> io::Result<()> {
         let number = self.owners;
-        let (length, by) = (self.dice.below(400), 1u64.saturating_add(self.dice.below(64)));
+        let (length, by) = (
+            self.dice.below(400),
+            1u64.saturating_add(self.dice.below(64)),
+        );
         let source = self.dice.pick(&["cycle", "count"]);
         write!(self.text, "handle {number} of {source} {length} by {by}")?;
         for kind in ["reads", "writes", "flushes", "seeks"] {

@@ -445,7 +445,11 @@ fn read_alone(alloc: Global, name: &str, words: &mut Words<'_>) -> Read<Alone> {
         "shut" => Alone::Gate(words.gate()?, false),
         "reached" => {
             let gate = words.gate()?;
-            let count = if words.peek().is_some() { words.number()? } else { 1 };
+            let count = if words.peek().is_some() {
+                words.number()?
+            } else {
+                1
+            };
             Alone::Reached(gate, count)
         }
         "sum" => {

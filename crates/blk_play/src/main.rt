@@ -122,7 +122,10 @@ fn play<H: System>(rt: H, text: &str, seconds: u64) -> io::Result<u8> {
         }
     };
     let is_over = Arc::new(rt.alloc(), AtomicBool::new(false))?;
-    let gates = Arc::new(rt.alloc(), Gates::new(rt.alloc(), Arc::try_clone(&is_over)?)?)?;
+    let gates = Arc::new(
+        rt.alloc(),
+        Gates::new(rt.alloc(), Arc::try_clone(&is_over)?)?,
+    )?;
     let inside = Arc::new(rt.alloc(), AllInside::new(rt.alloc())?)?;
     let script = Arc::new(rt.alloc(), script)?;
     let setup = Setup {

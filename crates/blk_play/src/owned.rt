@@ -1,5 +1,5 @@
 //! An owner as a script has it, and what its lines show.
-use crate::check::Observer;
+use crate::check::{Observer, Session, session_of};
 use crate::desk::Desk;
 use crate::line::{Future, OwnerLine, Point};
 use crate::owner::POLLS;
@@ -39,22 +39,26 @@ fn answered(came: Poll<Reply>, room: &[u8]) -> Shown {
     }
 }
 
+// The session that a future is of.
+fn session_in(future: &Future) -> Session {
+    match future {
+        Future::Exact(_) | Future::Rest => Session::Reads,
+        Future::Whole(_) | Future::Jump(_) => Session::Other,
+    }
+}
+
 fn whether(is_so: bool, yes: &'static str, no: &'static str) -> Shown {
     Shown::Word(if is_so { yes } else { no })
 }
 
 impl<O: Owner> Owned<O> {
     // Compares before a poll.
-    fn looks(&mut self, desk: &mut Desk) {
+    fn looks(&mut self, session: Session, desk: &mut Desk) {
         let is_idle = match &mut self.owner {
             Some(owner) => owner.is_idle(),
             None => false,
         };
-        desk.note(if is_idle {
-            self.observer.begins()
-        } else {
-            self.observer.compares()
-        });
+        desk.note(self.observer.looks(session, is_idle));
     }
 
     // One poll that reads behind so many bytes of the room.
@@ -65,7 +69,7 @@ impl<O: Owner> Owned<O> {
         from: usize,
         desk: &mut Desk,
     ) -> Poll<Reply> {
-        self.looks(desk);
+        self.looks(session_of(ask), desk);
         if let Ask::Write(bytes) = ask {
             return self.write(bytes.as_slice(), waker, desk);
         }
@@ -174,7 +178,7 @@ impl<O: Owner> Owned<O> {
             if rest.is_empty() {
                 break;
             }
-            self.looks(desk);
+            self.looks(Session::Other, desk);
             match self.write(rest, None, desk) {
                 Poll::Ready(Reply::Wrote(count)) if count > 0 => {
                     taken = taken.saturating_add(count);
@@ -193,7 +197,11 @@ impl<O: Owner> Owned<O> {
         let mut byte = 0u8;
         for _ in 0..count {
             bytes.push(byte)?;
-            byte = if byte == 250 { 0 } else { byte.saturating_add(1) };
+            byte = if byte == 250 {
+                0
+            } else {
+                byte.saturating_add(1)
+            };
         }
         let shown = self.put(bytes.as_slice(), desk);
         desk.whole = bytes;
@@ -245,7 +253,7 @@ impl<O: Owner> Owned<O> {
 
     // What a future answers that is polled until it does.
     fn finish(&mut self, future: &Future, desk: &mut Desk) -> Shown {
-        self.looks(desk);
+        self.looks(session_in(future), desk);
         let Some(owner) = &mut self.owner else {
             return NOTHING;
         };
@@ -301,7 +309,7 @@ impl<O: Owner> Owned<O> {
 
     // Drops a future at a point.
     fn leave(&mut self, future: &Future, point: Point, desk: &mut Desk) -> Shown {
-        self.looks(desk);
+        self.looks(session_in(future), desk);
         let Some(owner) = &mut self.owner else {
             return NOTHING;
         };

@@ -62,6 +62,15 @@ impl<S: Stage> Cast<S> {
     }
 }
 
+// An owner that a copier takes, and where its handle goes on.
+#[derive(Drop)]
+struct Lent<O: Drop> {
+    owner: O,
+    track: Arc<Track>,
+    // None where nobody knows.
+    place: Option<usize>,
+}
+
 /// A player.
 #[derive(Drop)]
 pub(crate) struct Player<S: Stage> {
@@ -183,36 +192,47 @@ impl<S: Stage> Player<S> {
     }
 
     // Takes an owner from its place, for a copier.
-    fn lent(&mut self, number: usize) -> io::Result<Option<(S::Owner, Arc<Track>)>> {
+    fn lent(&mut self, number: usize, is_reader: bool) -> io::Result<Option<Lent<S::Owner>>> {
         let Some(owned) = self.cast.owners.get_mut(number) else {
             return Ok(None);
         };
         let track = Arc::try_clone(&owned.observer.track)?;
-        owned.observer.is_left();
-        Ok(owned.owner.take().map(|owner| (owner, track)))
+        let Some(mut owner) = owned.owner.take() else {
+            return Ok(None);
+        };
+        let is_idle = owner.is_idle();
+        let place = if is_reader {
+            owned.observer.reads_on_at(is_idle)
+        } else {
+            owned.observer.writes_on_at(is_idle)
+        };
+        Ok(Some(Lent {
+            owner,
+            track,
+            place,
+        }))
     }
 
     fn link(&mut self, reader: usize, writer: usize, piece: usize) -> io::Result<Shown> {
         if reader == writer {
             return Ok(NOTHING);
         }
-        let Some((from, read)) = self.lent(reader)? else {
+        let Some(from) = self.lent(reader, true)? else {
             return Ok(NOTHING);
         };
-        let Some((to, written)) = self.lent(writer)? else {
+        let Some(to) = self.lent(writer, false)? else {
             return Ok(NOTHING);
         };
-        let Some(copier) = self.stage.link(from, to, piece)? else {
+        let Some(copier) = self.stage.link(from.owner, to.owner, piece)? else {
             return Ok(NOTHING);
         };
         let number = self.cast.copiers.len();
         self.cast.copiers.push(Copied {
             copier: Some(copier),
             waker: self.stage.waker()?,
-            from: read.gave.len(),
-            to: written.took.len(),
-            reader: read,
-            writer: written,
+            places: from.place.zip(to.place),
+            reader: from.track,
+            writer: to.track,
         })?;
         Ok(Shown::Count("linked", number as u64))
     }
@@ -234,7 +254,10 @@ impl<S: Stage> Player<S> {
 
     fn soon_rest(&self, workers: usize) -> Shown {
         let stage = &self.stage;
-        let rests = self.desk.patience.until(|| is_at_rest(stage.standing(), workers));
+        let rests = self
+            .desk
+            .patience
+            .until(|| is_at_rest(stage.standing(), workers));
         if rests {
             return Shown::Word("rests");
         }
@@ -268,7 +291,11 @@ impl<S: Stage> Player<S> {
         let before = self.stage.used_millis();
         self.stage.pause(millis);
         let used = self.stage.used_millis().saturating_sub(before);
-        Shown::Word(if used <= millis / 50 { "sleeps" } else { "busy" })
+        Shown::Word(if used <= millis / 50 {
+            "sleeps"
+        } else {
+            "busy"
+        })
     }
 
     fn passed(&self) -> u64 {
@@ -442,7 +469,11 @@ impl<S: Stage> Player<S> {
         match &self.kept {
             Some(kept) => {
                 let last = kept.as_str().trim_end().rsplit('\n').next();
-                if last == Some(text) { Flow::GoesOn } else { Flow::Late }
+                if last == Some(text) {
+                    Flow::GoesOn
+                } else {
+                    Flow::Late
+                }
             }
             None => Flow::GoesOn,
         }
@@ -461,7 +492,8 @@ impl<S: Stage> Player<S> {
             self.desk.note(Some("the counts of a pool disagree"));
         }
         if self.stage.too_many() > 0 {
-            self.desk.note(Some("more calls than a limit allows were inside"));
+            self.desk
+                .note(Some("more calls than a limit allows were inside"));
         }
         for call in self.cast.calls.iter() {
             self.desk.note(call.breach());
@@ -623,7 +655,11 @@ impl<S: Stage> Player<S> {
         self.drop_all();
         let _ = self.stage.sweep();
         let stage = &self.stage;
-        if !self.desk.patience.until(|| is_at_rest(stage.standing(), usize::MAX)) {
+        if !self
+            .desk
+            .patience
+            .until(|| is_at_rest(stage.standing(), usize::MAX))
+        {
             self.desk.note(Some("the pool didn't come to rest"));
         }
         self.compare_all();

@@ -103,7 +103,9 @@ impl<J: Job, H: Runtime> Pool<J, H> {
 
 impl<J: Carrier<H>, H: System> Stage for Pool<J, H> {
     type Owner = Lending<J, H>;
+
     type Task = Awaited<H>;
+
     type Copier = Linked<J, H>;
 
     fn alloc(&self) -> Global {
@@ -154,7 +156,11 @@ impl<J: Carrier<H>, H: System> Stage for Pool<J, H> {
         }))
     }
 
-    fn call(&self, plan: CallPlan, track: Arc<CallTrack>) -> io::Result<Result<Awaited<H>, Refusal>> {
+    fn call(
+        &self,
+        plan: CallPlan,
+        track: Arc<CallTrack>,
+    ) -> io::Result<Result<Awaited<H>, Refusal>> {
         let gates = Arc::try_clone(&self.gates)?;
         let all = Arc::try_clone(&self.inside.all)?;
         let inside = self.inside.of(plan.client)?;

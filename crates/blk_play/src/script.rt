@@ -92,19 +92,24 @@ fn find_ends(lines: &mut [Numbered]) -> bool {
     for place in 0..lines.len() {
         let end = end_of(lines, place.saturating_add(1));
         match lines.get_mut(place) {
-            Some(Numbered {
-                line: Line::Begin(_, length),
-                ..
-            }) => match end {
+            Some(
+                Numbered {
+                    line: Line::Begin(_, length),
+                    ..
+                },
+            ) => match end {
                 Some(end) => {
                     *length = end.saturating_sub(place);
                     open = open.saturating_add(1);
                 }
                 None => return false,
             },
-            Some(Numbered {
-                line: Line::End, ..
-            }) => match open.checked_sub(1) {
+            Some(
+                Numbered {
+                    line: Line::End,
+                    ..
+                },
+            ) => match open.checked_sub(1) {
                 Some(left) => open = left,
                 None => return false,
             },

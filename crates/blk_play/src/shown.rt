@@ -126,9 +126,7 @@ impl fmt::Display for Shown {
             Shown::Bytes(count, bytes) => {
                 let most = usize::try_from(count).unwrap_or(usize::MAX);
                 match bytes.get(..most) {
-                    Some(bytes) if count > 0 => {
-                        write!(f, "replied ok {count} {}", Hex(bytes))
-                    }
+                    Some(bytes) if count > 0 => { write!(f, "replied ok {count} {}", Hex(bytes)) }
                     _ => write!(f, "replied ok {count}"),
                 }
             }

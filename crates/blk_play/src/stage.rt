@@ -95,12 +95,7 @@ pub(crate) trait Owner: Drop {
     fn write(&mut self, task: &MockTask, bytes: &[u8]) -> Poll<Reply>;
 
     /// What a future answers that is polled until it does; Pending where that doesn't come.
-    fn finish(
-        &mut self,
-        task: &MockTask,
-        patience: &Patience,
-        lasting: Lasting<'_>,
-    ) -> Poll<Reply>;
+    fn finish(&mut self, task: &MockTask, patience: &Patience, lasting: Lasting<'_>) -> Poll<Reply>;
 
     /// Polls a future once, waits until that holds, and drops it. Says whether it waited, and that came to hold.
     fn leave<F: Fn() -> bool>(
@@ -172,7 +167,9 @@ pub(crate) struct Standing {
 /// A pool, and what else of the system a script needs.
 pub(crate) trait Stage: Drop {
     type Owner: Owner;
+
     type Task: Awaits;
+
     type Copier: Copies;
 
     fn alloc(&self) -> Global;
@@ -202,7 +199,11 @@ pub(crate) trait Stage: Drop {
         client: Option<u32>,
     ) -> io::Result<Self::Owner>;
 
-    fn call(&self, plan: CallPlan, track: Arc<CallTrack>) -> io::Result<Result<Self::Task, Refusal>>;
+    fn call(
+        &self,
+        plan: CallPlan,
+        track: Arc<CallTrack>,
+    ) -> io::Result<Result<Self::Task, Refusal>>;
 
     fn add(&self, client: u32, job: Waiter) -> Result<JobNo, Refusal>;
 

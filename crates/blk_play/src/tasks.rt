@@ -19,10 +19,7 @@ fn number_of(answer: Answered) -> Gave {
     Gave::Number(answer.number())
 }
 
-fn poll_task<H: Runtime + Drop>(
-    task: &mut Task<Scripted<H>, H>,
-    waker: &MockTask,
-) -> Option<Gave> {
+fn poll_task<H: Runtime + Drop>(task: &mut Task<Scripted<H>, H>, waker: &MockTask) -> Option<Gave> {
     if task.is_taken() {
         return None;
     }

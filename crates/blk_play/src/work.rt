@@ -86,7 +86,12 @@ impl<H: Runtime + Drop> Carries<CallJob<Scripted<H>, H>> for Work<H> {
     fn unwrap(self) -> Option<CallJob<Scripted<H>, H>> {
         match self {
             Work::Call(job) => Some(job),
-            Work::Read(_) | Work::Write(_) | Work::Stream(_) | Work::Seek(_) | Work::Operate(_) | Work::Wait(_) => None,
+            Work::Read(_)
+            | Work::Write(_)
+            | Work::Stream(_)
+            | Work::Seek(_)
+            | Work::Operate(_)
+            | Work::Wait(_) => None,
         }
     }
 }
@@ -108,7 +113,12 @@ impl<H: Runtime + Drop> Carries<ReadJob<Handle, H>> for Work<H> {
     fn unwrap(self) -> Option<ReadJob<Handle, H>> {
         match self {
             Work::Read(job) => Some(job),
-            Work::Call(_) | Work::Write(_) | Work::Stream(_) | Work::Seek(_) | Work::Operate(_) | Work::Wait(_) => None,
+            Work::Call(_)
+            | Work::Write(_)
+            | Work::Stream(_)
+            | Work::Seek(_)
+            | Work::Operate(_)
+            | Work::Wait(_) => None,
         }
     }
 }
@@ -130,7 +140,12 @@ impl<H: Runtime + Drop> Carries<WriteJob<Handle, H>> for Work<H> {
     fn unwrap(self) -> Option<WriteJob<Handle, H>> {
         match self {
             Work::Write(job) => Some(job),
-            Work::Call(_) | Work::Read(_) | Work::Stream(_) | Work::Seek(_) | Work::Operate(_) | Work::Wait(_) => None,
+            Work::Call(_)
+            | Work::Read(_)
+            | Work::Stream(_)
+            | Work::Seek(_)
+            | Work::Operate(_)
+            | Work::Wait(_) => None,
         }
     }
 }
@@ -152,7 +167,12 @@ impl<H: Runtime + Drop> Carries<ItemJob<Handle, u64, H>> for Work<H> {
     fn unwrap(self) -> Option<ItemJob<Handle, u64, H>> {
         match self {
             Work::Stream(job) => Some(job),
-            Work::Call(_) | Work::Read(_) | Work::Write(_) | Work::Seek(_) | Work::Operate(_) | Work::Wait(_) => None,
+            Work::Call(_)
+            | Work::Read(_)
+            | Work::Write(_)
+            | Work::Seek(_)
+            | Work::Operate(_)
+            | Work::Wait(_) => None,
         }
     }
 }
@@ -174,7 +194,12 @@ impl<H: Runtime + Drop> Carries<SeekJob<Handle, H>> for Work<H> {
     fn unwrap(self) -> Option<SeekJob<Handle, H>> {
         match self {
             Work::Seek(job) => Some(job),
-            Work::Call(_) | Work::Read(_) | Work::Write(_) | Work::Stream(_) | Work::Operate(_) | Work::Wait(_) => None,
+            Work::Call(_)
+            | Work::Read(_)
+            | Work::Write(_)
+            | Work::Stream(_)
+            | Work::Operate(_)
+            | Work::Wait(_) => None,
         }
     }
 }
@@ -196,7 +221,12 @@ impl<H: Runtime + Drop> Carries<OpJob<Jump, Handle, H>> for Work<H> {
     fn unwrap(self) -> Option<OpJob<Jump, Handle, H>> {
         match self {
             Work::Operate(job) => Some(job),
-            Work::Call(_) | Work::Read(_) | Work::Write(_) | Work::Stream(_) | Work::Seek(_) | Work::Wait(_) => None,
+            Work::Call(_)
+            | Work::Read(_)
+            | Work::Write(_)
+            | Work::Stream(_)
+            | Work::Seek(_)
+            | Work::Wait(_) => None,
         }
     }
 }
@@ -218,7 +248,12 @@ impl<H: Runtime + Drop> Carries<Waiter> for Work<H> {
     fn unwrap(self) -> Option<Waiter> {
         match self {
             Work::Wait(job) => Some(job),
-            Work::Call(_) | Work::Read(_) | Work::Write(_) | Work::Stream(_) | Work::Seek(_) | Work::Operate(_) => None,
+            Work::Call(_)
+            | Work::Read(_)
+            | Work::Write(_)
+            | Work::Stream(_)
+            | Work::Seek(_)
+            | Work::Operate(_) => None,
         }
     }
 }
