@@ -1,5 +1,5 @@
 //! An owner as a script has it, and what its lines show.
-use crate::check::{Observer, Session, session_of};
+use crate::check::{Breach, Observer, Session, session_of};
 use crate::desk::Desk;
 use crate::line::{OwnerLine, Point};
 use crate::patience::POLLS;
@@ -42,8 +42,8 @@ fn answered(came: Poll<Reply>, room: &[u8]) -> Shown {
 // The session that a future is of.
 fn session_in(future: &Lasting) -> Session {
     match future {
-        Lasting::Exact(_) | Lasting::Rest => Session::Reads,
-        Lasting::Whole(_) | Lasting::Jump(_) | Lasting::Inner => Session::Other,
+        Lasting::Exact(_) | Lasting::Rest | Lasting::Read(_) => Session::Reads,
+        _ => Session::Other,
     }
 }
 
@@ -268,24 +268,48 @@ impl<O: Owner> Owned<O> {
 
     // Compares what a future did.
     fn compares(&mut self, future: &Lasting, reply: Option<Reply>, start: usize, desk: &mut Desk) {
-        let breach = match (future, reply) {
-            (Lasting::Exact(count), Some(Reply::Read(_))) => {
+        let is_read = matches!(reply, Some(Reply::Read(_)));
+        let is_done = matches!(reply, Some(Reply::Done));
+        let breach = match future {
+            Lasting::Exact(count) if is_read => {
                 self.observer.got(desk.room.get(..*count).unwrap_or(&[]))
             }
-            (Lasting::Rest, Some(Reply::Read(_))) => {
+            Lasting::Rest if is_read => {
                 self.observer.got(desk.whole.get(start..).unwrap_or(&[]))
             }
-            (Lasting::Whole(bytes), Some(Reply::Done)) => {
+            Lasting::Whole(bytes) if is_done => {
                 self.observer.wrote(bytes.as_slice());
                 None
             }
-            (Lasting::Jump(_), _) => None,
+            Lasting::Read(count) => self.answered(&Ask::Read(*count), reply, desk),
+            Lasting::Flush => self.answered(&Ask::Flush, reply, desk),
+            Lasting::Close => self.answered(&Ask::Close, reply, desk),
+            Lasting::Write(bytes) => self.is_written(bytes.as_slice(), reply),
+            Lasting::Jump(_) | Lasting::Seek(_) => None,
             _ => {
                 self.observer.is_left();
                 None
             }
         };
         desk.note(breach);
+    }
+
+    fn answered(&mut self, ask: &Ask, reply: Option<Reply>, desk: &Desk) -> Option<Breach> {
+        self.observer.answered(ask, reply?, desk.room.as_slice())
+    }
+
+    fn is_written(&mut self, bytes: &[u8], reply: Option<Reply>) -> Option<Breach> {
+        match reply {
+            Some(Reply::Wrote(count)) => {
+                self.observer.wrote(bytes.get(..count).unwrap_or(&[]));
+                None
+            }
+            Some(Reply::Failed(why)) => {
+                self.observer.loses();
+                self.observer.failed(why)
+            }
+            _ => None,
+        }
     }
 
     // Drops a future at a point.
@@ -460,7 +484,7 @@ impl Places {
 // How many bytes a future fills.
 fn exact_of(future: &Lasting) -> usize {
     match future {
-        Lasting::Exact(count) => *count,
+        Lasting::Exact(count) | Lasting::Read(count) => *count,
         _ => 0,
     }
 }
