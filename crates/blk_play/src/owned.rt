@@ -246,65 +246,60 @@ impl<O: Owner> Owned<O> {
             };
             owner.finish(&self.waker, &desk.patience, future, room, &mut desk.whole)
         };
-        let reply = match came {
-            Poll::Ready(reply) => Some(reply),
-            Poll::Pending => None,
+        let Poll::Ready(reply) = came else {
+            self.observer.is_left();
+            return Ok(Shown::Word("no answer"));
         };
-        self.compares(future, reply, start, desk);
+        let came = desk.came(matches!(future, Lasting::Rest), start);
+        let breach = self.compares(future, reply, came);
+        let shown = match reply {
+            Reply::Read(count) => bytes_read(came, count),
+            Reply::Nothing => NOTHING,
+            _ => Shown::Reply(reply),
+        };
+        desk.note(breach);
         match (future, reply) {
-            (Lasting::Rest, Some(Reply::Failed(why))) => {
+            (Lasting::Rest, Reply::Failed(why)) => {
                 behind(why, desk, start)?;
                 Ok(Shown::Text)
             }
-            (Lasting::Rest, Some(Reply::Read(count))) => {
-                Ok(bytes_read(desk.whole.get(start..).unwrap_or(&[]), count))
-            }
-            (_, Some(Reply::Read(count))) => Ok(bytes_read(desk.room.as_slice(), count)),
-            (_, Some(Reply::Nothing)) => Ok(NOTHING),
-            (_, Some(reply)) => Ok(Shown::Reply(reply)),
-            (_, None) => Ok(Shown::Word("no answer")),
+            _ => Ok(shown),
         }
     }
 
-    // Compares what a future did.
-    fn compares(&mut self, future: &Lasting, reply: Option<Reply>, start: usize, desk: &mut Desk) {
-        let is_read = matches!(reply, Some(Reply::Read(_)));
-        let is_done = matches!(reply, Some(Reply::Done));
-        let breach = match future {
-            Lasting::Exact(count) if is_read => {
-                self.observer.got(desk.room.get(..*count).unwrap_or(&[]))
+    // Compares what a future did that read these bytes, if it read any.
+    fn compares(&mut self, future: &Lasting, reply: Reply, came: &[u8]) -> Option<Breach> {
+        match (future, reply) {
+            (Lasting::Exact(count), Reply::Read(_)) => {
+                self.observer.got(came.get(..*count).unwrap_or(&[]))
             }
-            Lasting::Rest if is_read => {
-                self.observer.got(desk.whole.get(start..).unwrap_or(&[]))
+            (Lasting::Rest, Reply::Read(_)) => self.observer.got(came),
+            (Lasting::Read(count), _) => {
+                let ask = Ask::Read(*count);
+                self.observer.answered(&ask, reply, came)
             }
-            Lasting::Whole(bytes) if is_done => {
+            (Lasting::Whole(bytes), Reply::Done) => {
                 self.observer.wrote(bytes.as_slice());
                 None
             }
-            Lasting::Read(count) => self.answered(&Ask::Read(*count), reply, desk),
-            Lasting::Flush => self.answered(&Ask::Flush, reply, desk),
-            Lasting::Close => self.answered(&Ask::Close, reply, desk),
-            Lasting::Write(bytes) => self.is_written(bytes.as_slice(), reply),
-            Lasting::Jump(_) | Lasting::Seek(_) => None,
+            (Lasting::Write(bytes), _) => self.is_written(bytes.as_slice(), reply),
+            (Lasting::Flush, _) => self.observer.answered(&Ask::Flush, reply, came),
+            (Lasting::Close, _) => self.observer.answered(&Ask::Close, reply, came),
+            (Lasting::Jump(_) | Lasting::Seek(_), _) => None,
             _ => {
                 self.observer.is_left();
                 None
             }
-        };
-        desk.note(breach);
+        }
     }
 
-    fn answered(&mut self, ask: &Ask, reply: Option<Reply>, desk: &Desk) -> Option<Breach> {
-        self.observer.answered(ask, reply?, desk.room.as_slice())
-    }
-
-    fn is_written(&mut self, bytes: &[u8], reply: Option<Reply>) -> Option<Breach> {
+    fn is_written(&mut self, bytes: &[u8], reply: Reply) -> Option<Breach> {
         match reply {
-            Some(Reply::Wrote(count)) => {
+            Reply::Wrote(count) => {
                 self.observer.wrote(bytes.get(..count).unwrap_or(&[]));
                 None
             }
-            Some(Reply::Failed(why)) => {
+            Reply::Failed(why) => {
                 self.observer.loses();
                 self.observer.failed(why)
             }
