@@ -48,13 +48,19 @@ class Crate:
         folder = self.top / "crates" / name / "out" / "rlib" if name in self.listed else kit() / "rlibs"
         return folder / f"{name}.rlib"
 
-    def words(self):
-        """The words of a check of a copy, in the copy's folder."""
+    def words(self, source=None):
+        """The words of a check of a copy, in the copy's folder. `source`: a crate below it whose sources are read, in a folder beside."""
         root = "src/main.rt" if (self.folder / "src" / "main.rt").is_file() else "src/lib.rt"
         words = [kit() / "bin" / "rattle", "check", "--crate-name", self.name, root, "--links", f"{self.name}="]
-        for name in ("std", *self.listed[self.name]):
+        uses = {"core": None, "std": None, **dict.fromkeys(self.listed[self.name])}
+        folders = {kit() / "rlibs": None, **{self.rlib(name).parent: None for name in self.below()}}
+        if source:
+            del uses[source.name], folders[source.rlib(source.name).parent]
+            its = ",".join(["core", "std", *source.listed[source.name]])
+            words += ["--lib", f"{source.name}:{its}=../{source.name}/src/lib.rt"]
+        for name in uses:
             words += ["--extern", f"{name}={self.rlib(name)}"]
-        for folder in (kit() / "rlibs", *(self.rlib(name).parent for name in self.below())):
+        for folder in folders:
             words += ["-L", f"dependency={folder}"]
         return [*words, "--antt-project", kit() / "rattle/logic/antt-project.json", "--logic-built", kit() / "logic_built", "--short-goals"]
 
@@ -72,33 +78,33 @@ def linked(folder, to):
 
 
 class Bench:
-    """Where copies of a crate are checked, over what an earlier check kept, or else over what these checks keep as they go."""
+    """Where copies of a crate are checked, over what an earlier check kept, or else over what these checks keep as they go. `source`: a
+    crate below it, whose texts are changed in its place."""
 
-    def __init__(self, crate, jobs):
-        self.crate, self.jobs = crate, jobs
+    def __init__(self, crate, jobs, source=None):
+        self.crate, self.jobs, self.source = crate, jobs, source
         kept = crate.folder / "out" / "incremental"
-        self.kept = kept if kept.is_dir() else None
-
-    def __enter__(self):
+        self.kept = kept if kept.is_dir() and not source else None
         self.room = tempfile.TemporaryDirectory(prefix="edits-")
-        return self
 
-    def __exit__(self, *_):
-        self.room.cleanup()
+    def copied(self, room, texts):
+        """Copies what a check reads, with these texts in the place of its own, by their paths."""
+        for crate in filter(None, (self.crate, self.source)):
+            for part in PARTS:
+                if (crate.folder / part).is_dir():
+                    shutil.copytree(crate.folder / part, room / crate.name / part)
+        for path, text in texts.items():
+            (room / (self.source or self.crate).name / path).write_text(text, encoding="utf-8")
 
     def check(self, texts, flags):
-        """What a check says of the crate with these texts in the place of its own, by their paths."""
+        """What a check says of the crate with these texts in the place of its own."""
         with tempfile.TemporaryDirectory(dir=self.room.name) as room:
-            for part in PARTS:
-                if (self.crate.folder / part).is_dir():
-                    shutil.copytree(self.crate.folder / part, Path(room) / part)
-            for path, text in texts.items():
-                (Path(room) / path).write_text(text, encoding="utf-8")
+            self.copied(Path(room), texts)
             kept = Path(room if self.kept else self.room.name) / "kept"
             if self.kept:
                 linked(self.kept, kept)
             kept.mkdir(exist_ok=True)
-            words = [*self.crate.words(), "--jobs", str(self.jobs), "--incremental", kept, *flags]
+            words = [*self.crate.words(self.source), "--jobs", str(self.jobs), "--incremental", kept, *flags]
             how = {"stdin": subprocess.DEVNULL, "stdout": subprocess.PIPE, "stderr": subprocess.STDOUT, "text": True, "errors": "replace"}
-            done = subprocess.run(words, cwd=room, **how)
+            done = subprocess.run(words, cwd=Path(room) / self.crate.name, **how)
         return Said(done.returncode, done.stdout)

@@ -2,7 +2,7 @@
 
 from pathlib import Path
 
-from editing.source import functions_of
+from editing.source import functions_of, homes_of
 
 PLACES = ("src/", "specs/", "proofs/")
 
@@ -50,6 +50,7 @@ class Sources:
 
     def __init__(self, crate):
         self.crate, self.texts, self.found = Path(crate), {}, {}
+        self.homes = homes_of({str(it.relative_to(crate)): it.read_text("utf-8") for it in self.crate.glob("src/**/*.rt")})
 
     def text(self, path):
         """The text of a file of the crate."""
@@ -60,17 +61,27 @@ class Sources:
                 raise BadEdit(f"{path} can't be read: {error.strerror}") from error
         return self.texts[path]
 
+    def functions(self):
+        """All functions of the crate."""
+        files = [str(it.relative_to(self.crate)) for it in sorted(self.crate.glob("src/**/*.rt"))]
+        return [it for path in files for it in self.functions_of(path)]
+
+    def functions_of(self, path):
+        """The functions of a file."""
+        if path not in self.found:
+            is_source = path.startswith("src/") and path.endswith(".rt")
+            self.found[path] = functions_of(path, self.text(path), self.homes) if is_source else []
+        return self.found[path]
+
     def is_cited(self, function):
-        """Whether a proof of the crate names a function's theorem."""
-        name = function.path.replace("::", ".") + "."
-        return any(name in file.read_text(encoding="utf-8") for file in self.crate.glob("proofs/**/*.antt"))
+        """Whether a proof of another function, or a lemma, names a function's theorem."""
+        name, own = function.path.replace("::", ".") + ".", self.crate / "proofs" / function.path.replace("::", "/")
+        files = (file for file in self.crate.glob("proofs/**/*.antt") if not file.is_relative_to(own))
+        return any(name in file.read_text(encoding="utf-8") for file in files)
 
     def function_at(self, path, line):
         """The innermost function that has a line, counted from 0; None where none has."""
-        if path not in self.found:
-            is_source = path.startswith("src/") and path.endswith(".rt")
-            self.found[path] = functions_of(path, self.text(path)) if is_source else []
-        return next((it for it in reversed(self.found[path]) if it.has(path, line)), None)
+        return next((it for it in reversed(self.functions_of(path)) if it.has(path, line)), None)
 
 
 class Edit:

@@ -6,6 +6,7 @@ import re
 HEAD = re.compile(r"( *)[\w() ]*\bfn (\w+)")
 HOLDER = re.compile(r"(?:impl|(?:pub(?:\(\w+\))? )?trait)\b(.*)")
 PARAMETERS = re.compile(r"<[^<>]*>")
+TYPE = re.compile(r"^(?:pub(?:\(\w+\))? )?(?:struct|enum) (\w+)", re.MULTILINE)
 
 
 class Function:
@@ -15,6 +16,8 @@ class Function:
     def __init__(self, file, lines, path):
         self.file, (self.first, self.body, self.last), self.path = file, lines, path
         self.key = file, self.first
+        # (a theorem, which does nothing)
+        self.is_empty = self.first < self.body == self.last
 
     def has(self, file, line):
         """Whether a line of a file is one of its own (both are counted from 0)."""
@@ -51,18 +54,24 @@ def joined(words):
     return "".join(word[0].upper() + word[1:] for word in words)
 
 
-def holder_of(head):
-    """What stands for an impl or a trait in the paths of its methods: the type, and behind it the trait and the trait's arguments,
-    of which parameters of the impl are left out."""
+def homes_of(texts):
+    """The modules of the types that the texts of a crate's files declare, by the types."""
+    return {name: module_of(file) for file, text in texts.items() for name in TYPE.findall(text)}
+
+
+def holder_of(head, module, homes):
+    """The path of an impl or a trait, in which its methods are: the type, in the module that declares it, or, of a trait's impl, the type
+    and the trait and the trait's arguments, of which parameters of the impl are left out."""
     generic, rest = generic_and_rest(HOLDER.match(head)[1].strip())
     trait, _, kind = re.split(r"[{]| where ", rest)[0].rpartition(" for ")
     kind = without_parameters(kind).strip()
     if not trait:
         # (of a trait's own head what it asks of types stands behind a colon)
-        return re.match(r"\w*", kind)[0]
+        name = re.match(r"\w*", kind)[0]
+        return [*homes.get(name, module), name]
     own = set(re.findall(r"[<,]\s*(?:const )?(\w+)", generic))
-    words = re.findall(r"\w+", re.sub(r"\w+::", "", trait))
-    return joined(re.findall(r"\w+", kind)) + joined(word for word in words if word not in own)
+    words = re.findall(r"\w+", re.sub(r"^(\w+::)+", "", trait.strip()))
+    return [*module, joined(re.findall(r"\w+", kind)) + joined(word for word in words if word not in own)]
 
 
 def end_of(lines, first, margin):
@@ -86,18 +95,17 @@ def body_of(lines, first, last, margin):
     return next(alone, next(behind, last))
 
 
-def functions_of(file, text):
-    """The functions of a file, inner ones behind those in which they stand."""
-    found, holder, lines = [], [], text.split("\n")
+def functions_of(file, text, homes):
+    """The functions of a file, inner ones behind those in which they stand. `homes` has the modules of the crate's types."""
+    module, lines = module_of(file), text.split("\n")
+    found, holder = [], module
     for at, line in enumerate(lines):
         if HOLDER.match(line):
             ends = (end for end in range(at, len(lines)) if lines[end].endswith(("{", "}")))
-            holder = [holder_of(" ".join(lines[at : next(ends, at) + 1]))]
-        elif line == "}":
-            holder = []
+            holder = holder_of(" ".join(lines[at : next(ends, at) + 1]), module, homes)
         head = HEAD.match(line)
         if head:
-            names = module_of(file) + (holder if head[1] else []) + [head[2]]
             last = end_of(lines, at, head[1])
-            found.append(Function(file, (at, body_of(lines, at, last, head[1]), last), "::".join(names)))
+            path = "::".join([*(holder if head[1] else module), head[2]])
+            found.append(Function(file, (at, body_of(lines, at, last, head[1]), last), path))
     return found

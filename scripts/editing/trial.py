@@ -3,8 +3,11 @@
 import subprocess
 import time
 
-from editing.edit import batch_of, changed
+from editing.crate import Bench, Crate
+from editing.edit import Sources, batch_of, changed
 
+# The crates whose theorems are about another's definitions, by that one.
+THEOREMS = {"blocking_world_laws": "blocking_world_law_tests"}
 REFUSED, MISSED, BAD, UNSURE = "refused", "NOT REFUSED", "BAD EDIT", "NOT TRIED"
 
 
@@ -16,45 +19,61 @@ def prove(crate, tell):
     return not done.returncode
 
 
-def only(edits):
-    """The flags that ask for the functions of edits alone."""
-    return [word for edit in edits for it in edit.functions for word in ("--only", it.path)]
+def only(functions):
+    """The flags that ask for functions alone."""
+    return [word for it in functions for word in ("--only", it.path)]
 
 
 class Trial:
     """The edits of a crate that are tried over a bench."""
 
-    def __init__(self, bench, sources, tell):
-        self.bench, self.sources, self.tell = bench, sources, tell
+    def __init__(self, crate, sources, jobs, tell):
+        self.sources, self.tell, self.bench = sources, tell, Bench(crate, jobs)
+        self.theorems = [(self.bench, [it for it in sources.functions() if it.is_empty])]
+        above = THEOREMS.get(crate.name)
+        if above:
+            bench = Bench(Crate(crate.top, above), jobs, crate)
+            self.theorems.append((bench, Sources(bench.crate.folder).functions()))
 
-    def check(self, edits, flags):
+    def check(self, edits, flags, bench=None):
         """What a check says of the crate with edits."""
-        start = time.monotonic()
-        said = self.bench.check(changed(self.sources, edits), flags)
-        seconds = time.monotonic() - start
-        self.tell(f"{self.bench.crate.name}: {len(edits)} at once, {seconds:.0f} s" if flags else f"{edits[0].name}: alone, {seconds:.0f} s")
+        start, bench = time.monotonic(), bench or self.bench
+        said = bench.check(changed(self.sources, edits), flags)
+        what = f"{len(edits)} at once" if len(edits) > 1 else edits[0].name
+        self.tell(f"{bench.crate.name}, {what}: {time.monotonic() - start:.0f} s")
         return said
 
     def together(self, edits):
         """Tries edits at once, and answers the goals at which they are seen to be refused, by the edits."""
         if not edits:
             return {}
-        said = self.check(edits, only(edits))
+        said = self.check(edits, only(it for edit in edits for it in edit.functions))
         unread = said.unread_places()
         guilty = [edit for edit in edits if any(it.has(*place) for it in edit.functions for place in unread)]
-        if said.is_judged:
-            goals = {edit: next(filter(None, map(said.goal_of, edit.functions)), "") for edit in edits if edit not in guilty}
-            return {edit: goal for edit, goal in goals.items() if goal}
-        if len(edits) == 1:
-            return {}
         innocent = [edit for edit in edits if edit not in guilty]
+        if said.is_judged:
+            goals = {edit: next(filter(None, map(said.goal_of, edit.functions)), "") for edit in innocent}
+            return {edit: goal for edit, goal in goals.items() if goal}
         if guilty:
             return self.together(innocent)
         half = len(edits) // 2
-        return {**self.together(edits[:half]), **self.together(edits[half:])}
+        return {**self.together(edits[:half]), **self.together(edits[half:])} if half else {}
+
+    def at_theorems(self, edit):
+        """Tries a wrong reading of a definition at theorems alone, and answers the goal at which it is refused; an empty text where none does."""
+        for bench, functions in self.theorems:
+            said = self.check([edit], only(functions), bench) if functions else None
+            if said and said.is_judged and not said.unread(edit):
+                goal = next(filter(None, map(said.goal_of, functions)), "")
+                if goal:
+                    return f"{bench.crate.name}: {goal}"
+        return ""
 
     def alone(self, edit):
         """Tries an edit alone, at all goals of the crate, and answers what it comes to, and why."""
+        goal = self.at_theorems(edit) if edit.is_of_specs else ""
+        if goal:
+            return REFUSED, goal
         said = self.check([edit], [])
         unread = said.unread(edit)
         if unread and said.status == 1:
