@@ -85,19 +85,18 @@ class Sources:
 
 
 class Edit:
-    """An edit: its file, the lines that it changes, by their file and their number, and the functions that have them. It has none where
-    it can't be told by errors of these alone whether it is refused."""
+    """An edit: its file, the lines that it changes, by their file and their number, and the functions that have them. `is_apart` says that it
+    changes nothing else, so that goals of these functions tell of it beside other edits too."""
 
     def __init__(self, file, sources):
         self.file, self.name = file, f"{file.parent.parent.name}/{file.stem}"
         self.lines = lines_of(file, sources)
         found = [sources.function_at(*place) for place in self.lines]
-        self.functions = [] if None in found else list({it.key: it for it in found}.values())
+        self.functions = list({it.key: it for it in found if it}.values())
         self.is_of_specs = any(path.startswith("specs/") for path, _ in self.lines)
         # (a changed contract can break what calls or cites its function)
         heads = [it for (path, at), it in zip(self.lines, found) if it and at < it.body]
-        if any(it.body < it.last or sources.is_cited(it) for it in heads):
-            self.functions = []
+        self.is_apart = None not in found and not any(it.body < it.last or sources.is_cited(it) for it in heads)
 
 
 def changed(sources, edits):

@@ -70,29 +70,36 @@ class Trial:
         return ""
 
     def alone(self, edit):
-        """Tries an edit alone, at all goals of the crate, and answers what it comes to, and why."""
+        """Tries an edit alone, at the functions that it changes or at theorems and then at all goals of the crate, and answers what it comes
+        to, and why."""
         goal = self.at_theorems(edit) if edit.is_of_specs else ""
         if goal:
             return REFUSED, goal
-        said = self.check([edit], [])
-        unread = said.unread(edit)
-        if unread and said.status == 1:
-            return BAD, f"the prover can't read it: {unread}"
+        if edit.functions:
+            kind, why = self.judged(edit, self.check([edit], only(edit.functions)))
+            if kind in (REFUSED, BAD):
+                return kind, why
+        return self.judged(edit, self.check([edit], []))
+
+    def judged(self, edit, said):
+        """What an edit comes to that was tried alone, and why."""
+        unread, goal = said.unread(edit), said.goal()
         if said.is_proved:
             return MISSED, "the crate is still proved"
+        if said.status == 1 and unread:
+            return BAD, f"the prover can't read it: {unread}"
         if said.limit():
             return REFUSED, f"by a limit of the prover alone: {said.limit()}"
         if said.is_judged and said.status == 1:
-            goal = said.goal()
             return (REFUSED, goal) if goal else (MISSED, "only proof files no longer fit")
         return UNSURE, f"the check ended with status {said.status}: {said.lines[-1]}"
 
     def all(self, edits):
         """Tries edits, and gives each with what it comes to, and why."""
-        waiting, alone, again = [it for it in edits if it.functions], [it for it in edits if not it.functions], set()
+        waiting, alone, again = [it for it in edits if it.is_apart], [it for it in edits if not it.is_apart], set()
         while waiting:
             edits = batch_of(waiting)
-            goals = self.together(edits)
+            goals = self.together(edits) if len(edits) > 1 else {}
             waiting = [it for it in waiting if it not in edits]
             for edit in edits:
                 if edit in goals:
