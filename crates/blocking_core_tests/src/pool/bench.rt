@@ -86,19 +86,21 @@ pub(super) struct Bench {
     hands: [Hand; 4],
 }
 
-/// Plays a row from its beginning on, and tells where it shows something else.
-pub(super) fn play<R: AllocGlobal + Abort>(rt: &R, row: &Row) {
-    let mut bench = Bench::new(rt.alloc(), row.pool);
-    if let Some(line) = bench.first_wrong(row.begin) {
-        stop(rt, row.name, line);
+/// Plays rows, each from its beginning on, and tells where one shows something else.
+pub(super) fn play<R: AllocGlobal + Abort>(rt: &R, rows: &[Row]) {
+    for row in rows {
+        let mut bench = Bench::new(rt.alloc(), row.pool);
+        if let Some(line) = bench.first_wrong(row.begin) {
+            stop(rt, row.name, line);
+        }
+        if let Some(line) = bench.first_wrong(row.steps) {
+            stop(rt, row.name, line);
+        }
+        if bench.starter.asked.as_slice() != row.starts {
+            stop(rt, row.name, row.steps.len());
+        }
+        bench.close(rt);
     }
-    if let Some(line) = bench.first_wrong(row.steps) {
-        stop(rt, row.name, line);
-    }
-    if bench.starter.asked.as_slice() != row.starts {
-        stop(rt, row.name, row.steps.len());
-    }
-    bench.close(rt);
 }
 
 // (numbers begin at 1)
@@ -139,28 +141,18 @@ fn waited(
     }
 }
 
-// (a job that was let go can't wait, and is done)
-fn finish(ending: Ending, job: Option<Marked>) -> Finish<Marked> {
-    match (ending, job) {
+// A worker's turn ends. (a job that was let go can't wait, and is done)
+fn ended(
+    pool: &mut Pool<Marked>,
+    turn: Turn,
+    ending: Ending,
+    job: Option<Marked>,
+) -> (Hand, Shown) {
+    let finish = match (ending, job) {
         (Ending::Waiting, Some(job)) => Finish::Waiting(job),
         (Ending::Dropped, _) => Finish::Dropped,
         (Ending::Done | Ending::Waiting, _) => Finish::Done,
-    }
-}
-
-// The job, with a mark.
-fn with_mark(job: Option<Marked>) -> Option<Marked> {
-    match job {
-        Some(Marked { number, .. }) => Some(Marked {
-            number,
-            is_marked: true,
-        }),
-        None => None,
-    }
-}
-
-// A worker's turn ends.
-fn ended(pool: &mut Pool<Marked>, turn: Turn, finish: Finish<Marked>) -> (Hand, Shown) {
+    };
     match pool.end(turn, finish) {
         Gone::Free(pass) => (Hand::Free(pass), Shown::Free),
         Gone::Drop(turn, job) => (Hand::Holds(turn, Some(job)), Shown::Drops(job.number)),
@@ -181,15 +173,6 @@ fn out(rt: &impl Abort, hand: Hand) {
         Hand::Free(_pass) => stop(rt, "a hand isn't empty", 0),
         Hand::Holds(_turn, _job) => stop(rt, "a hand isn't empty", 0),
     }
-}
-
-// Lets empty hands go.
-fn all_out(rt: &impl Abort, hands: [Hand; 4]) {
-    let [first, second, third, fourth] = hands;
-    out(rt, first);
-    out(rt, second);
-    out(rt, third);
-    out(rt, fourth);
 }
 
 impl Bench {
@@ -235,7 +218,10 @@ impl Bench {
             Step::Limit => Shown::LimitIs(self.pool.limit()),
             Step::ClientLimit => Shown::LimitIs(self.pool.client_limit()),
             Step::Ring => self.ring(),
-            Step::Switch => self.switch(),
+            Step::Switch => {
+                mem::swap(&mut self.pool, &mut self.other);
+                Shown::NoAnswer
+            }
         }
     }
 
@@ -282,11 +268,13 @@ impl Bench {
             (Work::Wait(until), Hand::Free(pass)) => {
                 waited(&mut self.pool, &mut self.starter, pass, until)
             }
-            (Work::End(ending), Hand::Holds(turn, job)) => {
-                ended(&mut self.pool, turn, finish(ending, job))
-            }
-            (Work::Mark, Hand::Holds(turn, job)) => {
-                (Hand::Holds(turn, with_mark(job)), Shown::NoAnswer)
+            (Work::End(ending), Hand::Holds(turn, job)) => ended(&mut self.pool, turn, ending, job),
+            (Work::Mark, Hand::Holds(turn, Some(Marked { number, .. }))) => {
+                let is_marked = true;
+                (
+                    Hand::Holds(turn, Some(Marked { number, is_marked })),
+                    Shown::NoAnswer,
+                )
             }
             (_, hand) => (hand, Shown::Misplaced),
         };
@@ -367,21 +355,11 @@ impl Bench {
         Shown::InFirstPlace(text.as_str().starts_with("JobNo { place: 0,"))
     }
 
-    fn switch(&mut self) -> Shown {
-        mem::swap(&mut self.pool, &mut self.other);
-        Shown::NoAnswer
-    }
-
     /// Ends every turn and dismisses every worker, so that nothing is left that has to be spent.
     pub(super) fn close(mut self, rt: &impl Abort) {
         for worker in 1..=4 {
             self.dismiss(worker);
         }
-        self.let_go(rt);
-    }
-
-    // (its hands are empty)
-    fn let_go(self, rt: &impl Abort) {
         let Bench {
             known: _known,
             pool: _pool,
@@ -389,7 +367,11 @@ impl Bench {
             starter: _starter,
             hands,
         } = self;
-        all_out(rt, hands);
+        let [first, second, third, fourth] = hands;
+        out(rt, first);
+        out(rt, second);
+        out(rt, third);
+        out(rt, fourth);
     }
 
     // Lets a worker end its turn, and take what is queued, until it stops.

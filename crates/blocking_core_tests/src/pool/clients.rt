@@ -1,5 +1,4 @@
 //! The limit of running jobs for each client: which queued jobs are ready, which of them is taken, and what makes another one ready.
-use super::bench::play;
 use super::step::Count::{Idle, Queued, Ready, Workers};
 use super::step::Deed::{Cancel, Mark, Wake};
 use super::step::Ending::{Done, Dropped, Waiting};
@@ -29,7 +28,7 @@ const ONE_EACH: [Line; 9] = [
     (SetClientLimit(Some(1)), NoAnswer),
 ];
 
-const ROWS: &[Row] = &[
+pub(super) const ROWS: &[Row] = &[
     Row {
         name: "a client at its limit is passed by, and its next job runs once one of its jobs is over",
         pool: LIMIT_4,
@@ -327,10 +326,3 @@ const ROWS: &[Row] = &[
         starts: &[1, 2],
     },
 ];
-
-#[test]
-fn client_rows(rt: HostRuntime) {
-    for row in ROWS {
-        play(&rt, row);
-    }
-}

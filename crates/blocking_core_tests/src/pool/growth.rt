@@ -1,5 +1,4 @@
 //! Growth by the queue, and starts that are refused.
-use super::bench::play;
 use super::step::Count::{Arriving, Idle, Queued, Workers};
 use super::step::Deed::{Mark, Wake};
 use super::step::Ending::Waiting;
@@ -13,7 +12,7 @@ use blocking_core::pool::BellKind::{All, Silent};
 use blocking_core::pool::Refusal::{NoWorker, Numbers};
 use blocking_core::pool::Woke::Entered;
 
-const ROWS: &[Row] = &[
+pub(super) const ROWS: &[Row] = &[
     Row {
         name: "eleven jobs start three workers",
         pool: NEW,
@@ -192,10 +191,3 @@ const ROWS: &[Row] = &[
         starts: &[],
     },
 ];
-
-#[test]
-fn pool_grows(rt: HostRuntime) {
-    for row in ROWS {
-        play(&rt, row);
-    }
-}

@@ -1,5 +1,5 @@
 //! The order of jobs, their places, and turns that end in another pool.
-use super::bench::{Bench, play};
+use super::bench::Bench;
 use super::step::Count::{Idle, Queued};
 use super::step::Deed::Place;
 use super::step::Ending::{Done, Waiting};
@@ -9,7 +9,7 @@ use super::step::Work::{End, Take};
 use super::step::{Line, NEW, Row};
 use crate::stop::stop;
 
-const ROWS: &[Row] = &[
+pub(super) const ROWS: &[Row] = &[
     Row {
         name: "two of six jobs are taken",
         pool: NEW,
@@ -78,13 +78,6 @@ const FIRST_OF_A_THOUSAND: &[Line] = &[
     (Worker(1, End(Done)), Free),
     (Job(1, Place), InFirstPlace(true)),
 ];
-
-#[test]
-fn turns_pass(rt: HostRuntime) {
-    for row in ROWS {
-        play(&rt, row);
-    }
-}
 
 // A job that is added beside an idle worker, and runs to its end.
 fn one_more(job: u32) -> [Line; 4] {

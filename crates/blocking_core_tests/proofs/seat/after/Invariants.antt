@@ -1,5 +1,5 @@
 use Rattle.blocking_schedule.specs.Seats.{IsHeard}
-use Rattle.blocking_schedule_tests.proofs.seat.after.Given as goal
+use Rattle.blocking_core_tests.proofs.seat.after.Given as goal
 
 -- each run keeps it
 abbrev pub invariant-loop-acts : goal.invariant-loop-acts

@@ -44,15 +44,6 @@ enum Trouble {
 
 use Trouble::{Ends, Fails, FailsOn, Nothing};
 
-// What may go wrong at each of the first calls of a handle. (an operation doesn't fail)
-const FINE: &[Trouble] = &[Nothing];
-
-const FAILS: &[Trouble] = &[Fails(0), Fails(1), Fails(2)];
-
-const FAILS_ON: &[Trouble] = &[FailsOn(0), FailsOn(1), FailsOn(2)];
-
-const ENDS: &[Trouble] = &[Ends(0), Ends(1), Ends(2)];
-
 // With which cases stray wakes come.
 #[derive(Clone, Copy)]
 enum Strays {
@@ -251,27 +242,17 @@ impl Call {
 }
 
 impl Trouble {
-    fn fails_at(self, number: u64) -> bool {
-        match self {
-            Fails(at) => number == at,
-            FailsOn(first) => number >= first,
-            Nothing | Ends(_) => false,
-        }
-    }
-
-    fn ends_at(self, number: u64) -> bool {
-        match self {
-            Ends(at) => number == at,
-            _ => false,
-        }
-    }
-
     // The answer of this number, in each form: only that has an action for which the job asked.
     fn answer(self, alloc: Global, number: u64, form: usize) -> Result<HandleAnswer, AllocError> {
-        if self.fails_at(number) {
+        let (fails, is_end) = match self {
+            Nothing => (false, false),
+            Fails(at) => (number == at, false),
+            FailsOn(first) => (number >= first, false),
+            Ends(at) => (false, number == at),
+        };
+        if fails {
             return Ok(HandleAnswer::Failed(number));
         }
-        let is_end = self.ends_at(number);
         Ok(match form {
             0 => HandleAnswer::Gave(bytes(alloc, if is_end { 0 } else { 1 })?),
             1 => HandleAnswer::Number(if is_end { 0 } else { 1 }),
@@ -507,184 +488,377 @@ fn is_right(alloc: Global, case: Case) -> Result<bool, AllocError> {
     outcome
 }
 
-// A case that doesn't go as it must: which of the troubles it has, its number, and both calls.
-type Wrong = Option<(usize, usize, Call, Call)>;
+// Sessions with which nothing goes wrong.
+const FINE: &[Session] = &[
+    Session {
+        call: Read,
+        trouble: Nothing,
+        stop: None,
+        strays: Strays::Without,
+    },
+    Session {
+        call: Read,
+        trouble: Nothing,
+        stop: None,
+        strays: Strays::With,
+    },
+    Session {
+        call: Write,
+        trouble: Nothing,
+        stop: None,
+        strays: Strays::Without,
+    },
+    Session {
+        call: Write,
+        trouble: Nothing,
+        stop: None,
+        strays: Strays::With,
+    },
+    Session {
+        call: Next,
+        trouble: Nothing,
+        stop: None,
+        strays: Strays::Without,
+    },
+    Session {
+        call: Next,
+        trouble: Nothing,
+        stop: None,
+        strays: Strays::With,
+    },
+    Session {
+        call: Seek,
+        trouble: Nothing,
+        stop: None,
+        strays: Strays::Without,
+    },
+    Session {
+        call: Seek,
+        trouble: Nothing,
+        stop: None,
+        strays: Strays::With,
+    },
+    Session {
+        call: Operate,
+        trouble: Nothing,
+        stop: None,
+        strays: Strays::Without,
+    },
+    Session {
+        call: Operate,
+        trouble: Nothing,
+        stop: None,
+        strays: Strays::With,
+    },
+];
 
-// The first of a session, with the trouble of this place.
-fn first_wrong_of(alloc: Global, session: Session, place: usize) -> Result<Wrong, AllocError> {
+// Sessions whose handle fails.
+const FAILING: &[Session] = &[
+    Session {
+        call: Read,
+        trouble: Fails(0),
+        stop: None,
+        strays: Strays::ByTurns,
+    },
+    Session {
+        call: Read,
+        trouble: Fails(1),
+        stop: None,
+        strays: Strays::ByTurns,
+    },
+    Session {
+        call: Read,
+        trouble: Fails(2),
+        stop: None,
+        strays: Strays::ByTurns,
+    },
+    Session {
+        call: Write,
+        trouble: Fails(0),
+        stop: None,
+        strays: Strays::ByTurns,
+    },
+    Session {
+        call: Write,
+        trouble: Fails(1),
+        stop: None,
+        strays: Strays::ByTurns,
+    },
+    Session {
+        call: Write,
+        trouble: Fails(2),
+        stop: None,
+        strays: Strays::ByTurns,
+    },
+    Session {
+        call: Write,
+        trouble: FailsOn(0),
+        stop: None,
+        strays: Strays::ByTurns,
+    },
+    Session {
+        call: Write,
+        trouble: FailsOn(1),
+        stop: None,
+        strays: Strays::ByTurns,
+    },
+    Session {
+        call: Write,
+        trouble: FailsOn(2),
+        stop: None,
+        strays: Strays::ByTurns,
+    },
+    Session {
+        call: Seek,
+        trouble: Fails(0),
+        stop: None,
+        strays: Strays::ByTurns,
+    },
+];
+
+// Sessions whose handle is at its end, or takes none of the bytes.
+const ENDING: &[Session] = &[
+    Session {
+        call: Read,
+        trouble: Ends(0),
+        stop: None,
+        strays: Strays::ByTurns,
+    },
+    Session {
+        call: Read,
+        trouble: Ends(1),
+        stop: None,
+        strays: Strays::ByTurns,
+    },
+    Session {
+        call: Read,
+        trouble: Ends(2),
+        stop: None,
+        strays: Strays::ByTurns,
+    },
+    Session {
+        call: Write,
+        trouble: Ends(0),
+        stop: None,
+        strays: Strays::ByTurns,
+    },
+    Session {
+        call: Write,
+        trouble: Ends(1),
+        stop: None,
+        strays: Strays::ByTurns,
+    },
+    Session {
+        call: Write,
+        trouble: Ends(2),
+        stop: None,
+        strays: Strays::ByTurns,
+    },
+    Session {
+        call: Next,
+        trouble: Ends(0),
+        stop: None,
+        strays: Strays::ByTurns,
+    },
+    Session {
+        call: Next,
+        trouble: Ends(1),
+        stop: None,
+        strays: Strays::ByTurns,
+    },
+    Session {
+        call: Next,
+        trouble: Ends(2),
+        stop: None,
+        strays: Strays::ByTurns,
+    },
+];
+
+// Sessions of which a stop is under way before a call is left: it came while the job was queued, or once its handle had answered.
+const STOPPED: &[Session] = &[
+    Session {
+        call: Read,
+        trouble: Nothing,
+        stop: Some(0),
+        strays: Strays::ByTurns,
+    },
+    Session {
+        call: Read,
+        trouble: Fails(0),
+        stop: Some(0),
+        strays: Strays::ByTurns,
+    },
+    Session {
+        call: Read,
+        trouble: Fails(1),
+        stop: Some(0),
+        strays: Strays::ByTurns,
+    },
+    Session {
+        call: Read,
+        trouble: Nothing,
+        stop: Some(4),
+        strays: Strays::ByTurns,
+    },
+    Session {
+        call: Read,
+        trouble: Fails(0),
+        stop: Some(4),
+        strays: Strays::ByTurns,
+    },
+    Session {
+        call: Read,
+        trouble: Fails(1),
+        stop: Some(4),
+        strays: Strays::ByTurns,
+    },
+    Session {
+        call: Write,
+        trouble: Nothing,
+        stop: Some(0),
+        strays: Strays::ByTurns,
+    },
+    Session {
+        call: Write,
+        trouble: FailsOn(0),
+        stop: Some(0),
+        strays: Strays::ByTurns,
+    },
+    Session {
+        call: Write,
+        trouble: Fails(2),
+        stop: Some(0),
+        strays: Strays::ByTurns,
+    },
+    Session {
+        call: Write,
+        trouble: Nothing,
+        stop: Some(4),
+        strays: Strays::ByTurns,
+    },
+    Session {
+        call: Write,
+        trouble: FailsOn(0),
+        stop: Some(4),
+        strays: Strays::ByTurns,
+    },
+    Session {
+        call: Write,
+        trouble: Fails(2),
+        stop: Some(4),
+        strays: Strays::ByTurns,
+    },
+];
+
+const STOPPED_TOO: &[Session] = &[
+    Session {
+        call: Next,
+        trouble: Nothing,
+        stop: Some(0),
+        strays: Strays::ByTurns,
+    },
+    Session {
+        call: Next,
+        trouble: Ends(1),
+        stop: Some(0),
+        strays: Strays::ByTurns,
+    },
+    Session {
+        call: Next,
+        trouble: Nothing,
+        stop: Some(4),
+        strays: Strays::ByTurns,
+    },
+    Session {
+        call: Next,
+        trouble: Ends(1),
+        stop: Some(4),
+        strays: Strays::ByTurns,
+    },
+    Session {
+        call: Seek,
+        trouble: Nothing,
+        stop: Some(0),
+        strays: Strays::ByTurns,
+    },
+    Session {
+        call: Seek,
+        trouble: Fails(0),
+        stop: Some(0),
+        strays: Strays::ByTurns,
+    },
+    Session {
+        call: Seek,
+        trouble: Nothing,
+        stop: Some(4),
+        strays: Strays::ByTurns,
+    },
+    Session {
+        call: Seek,
+        trouble: Fails(0),
+        stop: Some(4),
+        strays: Strays::ByTurns,
+    },
+    Session {
+        call: Operate,
+        trouble: Nothing,
+        stop: Some(0),
+        strays: Strays::ByTurns,
+    },
+    Session {
+        call: Operate,
+        trouble: Nothing,
+        stop: Some(4),
+        strays: Strays::ByTurns,
+    },
+];
+
+// The first case of a session that doesn't go as it must.
+fn first_wrong(alloc: Global, session: Session) -> Result<Option<usize>, AllocError> {
     for number in 0..CASES {
         let Some(case) = Case::of(session, number) else {
             return Ok(None);
         };
         if !is_right(alloc, case)? {
-            return Ok(Some((place, number, case.first, case.second)));
+            return Ok(Some(number));
         }
     }
     Ok(None)
 }
 
-// The first of sessions for this call.
-fn first_wrong(
-    alloc: Global,
-    call: Call,
-    troubles: &[Trouble],
-    stop: Option<usize>,
-    strays: Strays,
-) -> Result<Wrong, AllocError> {
-    for (place, trouble) in troubles.iter().enumerate() {
-        let session = Session {
-            call,
-            trouble: *trouble,
-            stop,
-            strays,
-        };
-        let wrong = first_wrong_of(alloc, session, place)?;
-        if wrong.is_some() {
-            return Ok(wrong);
+// No case of these sessions goes wrong.
+fn all_go(rt: &HostRuntime, sessions: &[Session]) -> Result<(), Fail> {
+    for (place, session) in sessions.iter().enumerate() {
+        let wrong = first_wrong(rt.alloc(), *session)?;
+        if let Some(number) = wrong {
+            return Err(Fail::new(format_args!("session {place}, case {number}")));
         }
     }
-    Ok(None)
-}
-
-// Of sessions with which nothing goes wrong.
-fn first_wrong_of_fine(alloc: Global, call: Call) -> Result<Wrong, AllocError> {
-    match first_wrong(alloc, call, FINE, None, Strays::Without)? {
-        None => first_wrong(alloc, call, FINE, None, Strays::With),
-        wrong => Ok(wrong),
-    }
-}
-
-// Of sessions with troubles.
-fn first_wrong_in(alloc: Global, call: Call, troubles: &[Trouble]) -> Result<Wrong, AllocError> {
-    first_wrong(alloc, call, troubles, None, Strays::ByTurns)
-}
-
-// After how many acts of its job a session is stopped, before a call is left: it is queued, or its handle has answered.
-const STOPS: [usize; 2] = [0, 4];
-
-// Of sessions of which a stop is under way.
-fn first_wrong_behind_a_stop(
-    alloc: Global,
-    call: Call,
-    troubles: &[Trouble],
-) -> Result<Wrong, AllocError> {
-    for acts in STOPS {
-        let wrong = first_wrong(alloc, call, troubles, Some(acts), Strays::ByTurns)?;
-        if wrong.is_some() {
-            return Ok(wrong);
-        }
-    }
-    Ok(None)
+    Ok(())
 }
 
 // (tests of their own, since all together would take most of the time that a test has)
 #[test]
-fn calls_follow_behind_a_reading_session(rt: HostRuntime) -> Result<(), Fail> {
-    assert_eq!(rt; first_wrong_of_fine(rt.alloc(), Read)?, None);
-    Ok(())
+fn calls_follow_behind_sessions(rt: HostRuntime) -> Result<(), Fail> {
+    all_go(&rt, FINE)
 }
 
 #[test]
-fn calls_follow_behind_a_writing_session(rt: HostRuntime) -> Result<(), Fail> {
-    assert_eq!(rt; first_wrong_of_fine(rt.alloc(), Write)?, None);
-    Ok(())
+fn calls_follow_behind_sessions_that_fail(rt: HostRuntime) -> Result<(), Fail> {
+    all_go(&rt, FAILING)
 }
 
 #[test]
-fn calls_follow_behind_a_stream(rt: HostRuntime) -> Result<(), Fail> {
-    assert_eq!(rt; first_wrong_of_fine(rt.alloc(), Next)?, None);
-    Ok(())
+fn calls_follow_behind_sessions_at_their_end(rt: HostRuntime) -> Result<(), Fail> {
+    all_go(&rt, ENDING)
 }
 
 #[test]
-fn calls_follow_behind_a_seek(rt: HostRuntime) -> Result<(), Fail> {
-    assert_eq!(rt; first_wrong_of_fine(rt.alloc(), Seek)?, None);
-    Ok(())
+fn calls_follow_behind_stopped_reads_and_writes(rt: HostRuntime) -> Result<(), Fail> {
+    all_go(&rt, STOPPED)
 }
 
 #[test]
-fn calls_follow_behind_an_operation(rt: HostRuntime) -> Result<(), Fail> {
-    assert_eq!(rt; first_wrong_of_fine(rt.alloc(), Operate)?, None);
-    Ok(())
-}
-
-#[test]
-fn calls_follow_behind_a_reader_that_fails(rt: HostRuntime) -> Result<(), Fail> {
-    assert_eq!(rt; first_wrong_in(rt.alloc(), Read, FAILS)?, None);
-    Ok(())
-}
-
-#[test]
-fn calls_follow_behind_a_reader_at_its_end(rt: HostRuntime) -> Result<(), Fail> {
-    assert_eq!(rt; first_wrong_in(rt.alloc(), Read, ENDS)?, None);
-    Ok(())
-}
-
-#[test]
-fn calls_follow_behind_a_writer_that_fails(rt: HostRuntime) -> Result<(), Fail> {
-    assert_eq!(rt; first_wrong_in(rt.alloc(), Write, FAILS)?, None);
-    Ok(())
-}
-
-#[test]
-fn calls_follow_behind_a_writer_that_fails_on(rt: HostRuntime) -> Result<(), Fail> {
-    assert_eq!(rt; first_wrong_in(rt.alloc(), Write, FAILS_ON)?, None);
-    Ok(())
-}
-
-#[test]
-fn calls_follow_behind_a_writer_that_takes_none(rt: HostRuntime) -> Result<(), Fail> {
-    assert_eq!(rt; first_wrong_in(rt.alloc(), Write, ENDS)?, None);
-    Ok(())
-}
-
-#[test]
-fn calls_follow_behind_an_iterator_at_its_end(rt: HostRuntime) -> Result<(), Fail> {
-    assert_eq!(rt; first_wrong_in(rt.alloc(), Next, ENDS)?, None);
-    Ok(())
-}
-
-#[test]
-fn calls_follow_behind_a_seek_that_fails(rt: HostRuntime) -> Result<(), Fail> {
-    assert_eq!(rt; first_wrong_in(rt.alloc(), Seek, &[Fails(0)])?, None);
-    Ok(())
-}
-
-#[test]
-fn calls_follow_behind_a_stopped_reader(rt: HostRuntime) -> Result<(), Fail> {
-    let troubles = &[Nothing, Fails(0), Fails(1)];
-    assert_eq!(rt;
-        first_wrong_behind_a_stop(rt.alloc(), Read, troubles)?,
-        None
-    );
-    Ok(())
-}
-
-#[test]
-fn calls_follow_behind_a_stopped_writer(rt: HostRuntime) -> Result<(), Fail> {
-    let troubles = &[Nothing, FailsOn(0), Fails(2)];
-    assert_eq!(rt;
-        first_wrong_behind_a_stop(rt.alloc(), Write, troubles)?,
-        None
-    );
-    Ok(())
-}
-
-#[test]
-fn calls_follow_behind_a_stopped_stream(rt: HostRuntime) -> Result<(), Fail> {
-    assert_eq!(rt;
-        first_wrong_behind_a_stop(rt.alloc(), Next, &[Nothing, Ends(1)])?,
-        None
-    );
-    Ok(())
-}
-
-#[test]
-fn calls_follow_behind_a_stopped_seek_or_operation(rt: HostRuntime) -> Result<(), Fail> {
-    assert_eq!(rt;
-        first_wrong_behind_a_stop(rt.alloc(), Seek, &[Nothing, Fails(0)])?,
-        None
-    );
-    assert_eq!(rt; first_wrong_behind_a_stop(rt.alloc(), Operate, FINE)?, None);
-    Ok(())
+fn calls_follow_behind_other_stopped_sessions(rt: HostRuntime) -> Result<(), Fail> {
+    all_go(&rt, STOPPED_TOO)
 }

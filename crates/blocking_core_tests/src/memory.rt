@@ -4,24 +4,21 @@ use crate::row::PlainStep::{
     Arrive, AskNext, AskRead, AskSeek, AskWrite, End, Flushed, Gives, GivesItem, HasNoItem, Io,
     Job, Late, New, OfTask, Own, Spawn, Take,
 };
-use crate::row::{Place, PlainStep, agree, check_step, counts};
+use crate::row::{PlainStep, agree, texts};
 use blocking_core::io::Position;
 use blocking_core::pool::Refusal;
-use blocking_world::{World, cut, run};
-use blocking_world_laws::bytes::Bytes;
-use blocking_world_laws::event::{Act, Event, Party};
+use blocking_world::{World, run};
+use blocking_world_laws::event::{Act, Event};
+use blocking_world_laws::step::Step;
 use blocking_world_laws::step::TaskCall::Poll;
-use blocking_world_laws::step::{HandleAnswer, Step};
-use std::alloc::{AllocError, Global};
+use std::alloc::Global;
 use std::fmt::Write;
 use std::test::Fail;
 
-// How an owner that asked for this is told that its session was refused.
-fn told(asked: PlainStep) -> &'static str {
-    match asked {
-        AskNext(_) => "replied refused memory",
-        _ => "replied fault refused memory",
-    }
+// Takes this step, whose one event has this text.
+fn takes(alloc: Global, world: &mut World, step: PlainStep, text: &str) -> Result<(), Fail> {
+    let events = run(alloc, world, &[step.step(alloc)?])?;
+    agree("a refused session", texts(alloc, &events)?.as_str(), text)
 }
 
 // An owner whose session was refused is told so, rests, and asks again for what it asked.
@@ -31,21 +28,27 @@ fn asks_again(
     owner: usize,
     asked: PlainStep,
 ) -> Result<(), Fail> {
-    check_step(alloc, world, place(0), Own(owner), told(asked))?;
+    let told = match asked {
+        AskNext(_) => "replied refused memory\n",
+        _ => "replied fault refused memory\n",
+    };
+    takes(alloc, world, Own(owner), told)?;
     if world.poll_under_way(owner) {
         return Err(Fail::new("an owner polls that was told"));
     }
-    check_step(alloc, world, place(0), asked, "asked")
+    takes(alloc, world, asked, "asked\n")
 }
 
-// How the world stands, as far as it can be asked: its counts, and whether its first owner polls and its first worker's job has a next
-// action of its own.
+// How the world stands, as far as it can be asked: its counts and its limit, and whether its first owner polls and its first worker's job has
+// a next action of its own.
 fn standing(world: &World) -> ((usize, usize, usize, Option<usize>), bool, bool) {
-    (
-        counts(world),
-        world.poll_under_way(0),
-        world.has_job_action(1),
-    )
+    let counts = (
+        world.thread_count(),
+        world.idle_count(),
+        world.queue_len(),
+        world.limit(),
+    );
+    (counts, world.poll_under_way(0), world.has_job_action(1))
 }
 
 // Takes a step once: its event, or none where there was no room for it, which is told with the text that was to be seen.
@@ -69,11 +72,6 @@ fn tries(
     }
 }
 
-// Whether a session or a call was refused for want of memory.
-fn is_refused(event: &Event) -> bool {
-    matches!(event.act, Act::Refused(Refusal::Memory))
-}
-
 // Takes a step until there is room for it, twice at most: until then the world is as it was, but for an owner who was told, and who asks
 // again then.
 fn insists(
@@ -86,8 +84,15 @@ fn insists(
     for _ in 0..2 {
         let before = standing(world);
         let event = tries(rt, alloc, world, step, text)?;
+        let is_refused = matches!(
+            &event,
+            Some(Event {
+                act: Act::Refused(Refusal::Memory),
+                ..
+            })
+        );
         match (event, step) {
-            (Some(event), _) if !is_refused(&event) => return Ok(event),
+            (Some(event), _) if !is_refused => return Ok(event),
             (Some(_), Own(owner)) => {
                 println!(rt; "refused: {text}: refused memory")?;
                 asks_again(alloc, world, owner, asked)?;
@@ -102,24 +107,19 @@ fn insists(
     Err(Fail::new(format_args!("no room twice: {text}")))
 }
 
-// Six calls to be handed in.
-fn six_calls() -> [Step; 6] {
-    [
-        Step::Spawn(0),
-        Step::Spawn(0),
-        Step::Spawn(0),
-        Step::Spawn(0),
-        Step::Spawn(0),
-        Step::Spawn(0),
-    ]
-}
-
-// Hands in all six calls in one run, and in a second those that the first left out.
+// Hands in six calls in one run, and in a second those that the first left out.
 fn spawns_six(rt: &impl Print, alloc: Global, world: &mut World) -> Result<(), Fail> {
     let before = world.queue_len();
     for _ in 0..2 {
         let taken = world.queue_len().saturating_sub(before);
-        let calls = six_calls();
+        let calls = [
+            Step::Spawn(0),
+            Step::Spawn(0),
+            Step::Spawn(0),
+            Step::Spawn(0),
+            Step::Spawn(0),
+            Step::Spawn(0),
+        ];
         let left = calls.get(taken..).unwrap_or(&[]);
         if run(alloc, world, left).is_err() {
             let taken = world.queue_len().saturating_sub(before);
@@ -130,24 +130,6 @@ fn spawns_six(rt: &impl Print, alloc: Global, world: &mut World) -> Result<(), F
         Ok(())
     } else {
         Err(Fail::new("not six calls"))
-    }
-}
-
-// An empty text with room for that of any event here.
-fn room(rt: &impl Print, alloc: Global) -> Result<String, Fail> {
-    for _ in 0..2 {
-        if let Ok(text) = String::with_capacity(alloc, 64) {
-            return Ok(text);
-        }
-        println!(rt; "refused: the test's own text")?;
-    }
-    Err(Fail::new("no room twice"))
-}
-
-fn place(lines: usize) -> Place<'static> {
-    Place {
-        row: "each piece refused",
-        lines,
     }
 }
 
@@ -309,17 +291,23 @@ fn takes_all(
     world: &mut World,
     steps: &[(PlainStep, &str)],
 ) -> Result<(), Fail> {
-    let mut seen = room(rt, alloc)?;
-    let mut asked = AskRead(0, 2);
-    for (lines, line) in steps.iter().enumerate() {
-        let (step, text) = *line;
-        if let AskRead(_, _) | AskWrite(_, _) | AskNext(_) | AskSeek(_, _) = step {
-            asked = step;
+    // (with room for the text of any event here)
+    let mut seen = match String::with_capacity(alloc, 64) {
+        Ok(text) => text,
+        Err(_) => {
+            println!(rt; "refused: the test's own text")?;
+            String::with_capacity(alloc, 64)?
         }
-        let event = insists(rt, alloc, world, (step, text), asked)?;
+    };
+    let mut asked = AskRead(0, 2);
+    for (step, text) in steps {
+        if let AskRead(_, _) | AskWrite(_, _) | AskNext(_) | AskSeek(_, _) = step {
+            asked = *step;
+        }
+        let event = insists(rt, alloc, world, (*step, text), asked)?;
         seen.clear();
         write!(seen, "{event}")?;
-        agree(place(lines), seen.as_str(), text)?;
+        agree("each piece refused", seen.as_str(), text)?;
     }
     Ok(())
 }
@@ -329,7 +317,7 @@ fn goes_on(rt: &impl Print, alloc: Global, world: &mut World) -> Result<(), Fail
     takes_all(rt, alloc, world, CALL)?;
     spawns_six(rt, alloc, world)?;
     takes_all(rt, alloc, world, &[(Spawn, "accepted 8")])?;
-    if counts(world) == (2, 2, 7, Some(2)) {
+    if standing(world) == ((2, 2, 7, Some(2)), false, false) {
         Ok(())
     } else {
         Err(Fail::new("other counts"))
@@ -366,101 +354,4 @@ fn each_piece_of_a_streamer_refused(rt: HostRuntime) -> Result<(), Fail> {
     let outcome = takes_all(&rt, rt.alloc(), &mut world, ITEMS_AND_A_SEEK);
     world.close();
     outcome
-}
-
-// An event with no start, of the job of this owner where it is a worker's.
-fn event(party: Party, owner: Option<usize>, act: Act) -> Event {
-    Event {
-        party,
-        owner,
-        job: None,
-        act,
-        first: 3,
-        started: 0,
-        start_refused: false,
-    }
-}
-
-// These bytes.
-fn bytes(alloc: Global, items: &[u8]) -> Result<Bytes, AllocError> {
-    Ok(Bytes::new(items.to_vec(alloc)?))
-}
-
-// What the reader of this owner gave, which this worker asked.
-fn gave(alloc: Global, worker: usize, owner: usize, items: &[u8]) -> Result<Event, AllocError> {
-    let answer = HandleAnswer::Gave(bytes(alloc, items)?);
-    Ok(event(Party::Worker(worker), Some(owner), Act::Answered(answer)))
-}
-
-// What this owner got.
-fn got(alloc: Global, owner: usize, items: &[u8]) -> Result<Event, AllocError> {
-    let act = Act::Got(bytes(alloc, items)?, None);
-    Ok(event(Party::Owner(owner), None, act))
-}
-
-// Events of two owners, and of the pool.
-fn of_two(alloc: Global) -> Result<Vec<Event>, AllocError> {
-    let mut events = Vec::new(alloc);
-    events.push(event(Party::Owner(0), None, Act::Made(0, 4)))?;
-    events.push(event(Party::Owner(1), None, Act::Made(1, 4)))?;
-    events.push(event(Party::Worker(1), Some(0), Act::Took(1)))?;
-    events.push(gave(alloc, 1, 0, b"ab")?)?;
-    events.push(gave(alloc, 2, 1, b"x")?)?;
-    events.push(got(alloc, 1, b"x")?)?;
-    events.push(got(alloc, 0, b"ab")?)?;
-    events.push(event(Party::Owner(0), None, Act::NoAction))?;
-    events.push(event(Party::Pool, None, Act::Swept(0)))?;
-    Ok(events)
-}
-
-// The same, where the first try may be refused.
-fn insists_on_two(rt: &impl Print, alloc: Global) -> Result<Vec<Event>, Fail> {
-    for _ in 0..2 {
-        if let Ok(events) = of_two(alloc) {
-            return Ok(events);
-        }
-        println!(rt; "refused: the test's own events")?;
-    }
-    Err(Fail::new("no room twice"))
-}
-
-// The cut of this owner, where the first try may be refused.
-fn insists_on_cut(
-    rt: &impl Print,
-    alloc: Global,
-    owner: usize,
-    events: &[Event],
-) -> Result<Vec<Event>, Fail> {
-    for _ in 0..2 {
-        if let Ok(kept) = cut(alloc, owner, events) {
-            return Ok(kept);
-        }
-        println!(rt; "refused: the cut of owner {owner}")?;
-    }
-    Err(Fail::new("no room twice"))
-}
-
-// The cut of this owner has three events, with this text together.
-fn has_three(
-    rt: &impl Print,
-    alloc: Global,
-    owner: usize,
-    events: &[Event],
-    text: &str,
-) -> Result<(), Fail> {
-    let kept = insists_on_cut(rt, alloc, owner, events)?;
-    let [first, second, third] = kept.as_slice() else {
-        return Err(Fail::new("not three events"));
-    };
-    let mut seen = room(rt, alloc)?;
-    write!(seen, "{first} / {second} / {third}")?;
-    agree(place(0), seen.as_str(), text)
-}
-
-#[test]
-fn each_piece_of_a_cut_refused(rt: HostRuntime) -> Result<(), Fail> {
-    let alloc = rt.alloc();
-    let events = insists_on_two(&rt, alloc)?;
-    has_three(&rt, alloc, 0, &events, "made 0 / answered 6162 / got 6162")?;
-    has_three(&rt, alloc, 1, &events, "made 1 / answered 78 / got 78")
 }
