@@ -42,6 +42,7 @@ enum Trouble {
     Ends(u64),
 }
 
+use Strays::{ByTurns, With, Without};
 use Trouble::{Ends, Fails, FailsOn, Nothing};
 
 // With which cases stray wakes come.
@@ -89,9 +90,9 @@ impl Case {
             session,
             acts: number / 81 % ACTS,
             has_strays: match session.strays {
-                Strays::Without => false,
-                Strays::With => true,
-                Strays::ByTurns => number % 2 > 0,
+                Without => false,
+                With => true,
+                ByTurns => number % 2 > 0,
             },
             first: *CALLS.get(number / 9 % 9)?,
             second: *CALLS.get(number % 9)?,
@@ -489,327 +490,342 @@ fn is_right(alloc: Global, case: Case) -> Result<bool, AllocError> {
 }
 
 // Sessions with which nothing goes wrong.
-const FINE: &[Session] = &[
+const READS_WRITES_AND_ITEMS: &[Session] = &[
     Session {
         call: Read,
         trouble: Nothing,
         stop: None,
-        strays: Strays::Without,
+        strays: Without,
     },
     Session {
         call: Read,
         trouble: Nothing,
         stop: None,
-        strays: Strays::With,
+        strays: With,
     },
     Session {
         call: Write,
         trouble: Nothing,
         stop: None,
-        strays: Strays::Without,
+        strays: Without,
     },
     Session {
         call: Write,
         trouble: Nothing,
         stop: None,
-        strays: Strays::With,
+        strays: With,
     },
     Session {
         call: Next,
         trouble: Nothing,
         stop: None,
-        strays: Strays::Without,
+        strays: Without,
     },
     Session {
         call: Next,
         trouble: Nothing,
         stop: None,
-        strays: Strays::With,
-    },
-    Session {
-        call: Seek,
-        trouble: Nothing,
-        stop: None,
-        strays: Strays::Without,
-    },
-    Session {
-        call: Seek,
-        trouble: Nothing,
-        stop: None,
-        strays: Strays::With,
-    },
-    Session {
-        call: Operate,
-        trouble: Nothing,
-        stop: None,
-        strays: Strays::Without,
-    },
-    Session {
-        call: Operate,
-        trouble: Nothing,
-        stop: None,
-        strays: Strays::With,
+        strays: With,
     },
 ];
 
-// Sessions whose handle fails.
-const FAILING: &[Session] = &[
+const SEEKS_AND_OPERATIONS: &[Session] = &[
+    Session {
+        call: Seek,
+        trouble: Nothing,
+        stop: None,
+        strays: Without,
+    },
+    Session {
+        call: Seek,
+        trouble: Nothing,
+        stop: None,
+        strays: With,
+    },
+    Session {
+        call: Operate,
+        trouble: Nothing,
+        stop: None,
+        strays: Without,
+    },
+    Session {
+        call: Operate,
+        trouble: Nothing,
+        stop: None,
+        strays: With,
+    },
+];
+
+// Sessions whose handle fails. (an operation doesn't fail)
+const FAILING_READS_AND_SEEKS: &[Session] = &[
     Session {
         call: Read,
         trouble: Fails(0),
         stop: None,
-        strays: Strays::ByTurns,
+        strays: ByTurns,
     },
     Session {
         call: Read,
         trouble: Fails(1),
         stop: None,
-        strays: Strays::ByTurns,
+        strays: ByTurns,
     },
     Session {
         call: Read,
         trouble: Fails(2),
         stop: None,
-        strays: Strays::ByTurns,
+        strays: ByTurns,
     },
+    Session {
+        call: Seek,
+        trouble: Fails(0),
+        stop: None,
+        strays: ByTurns,
+    },
+];
+
+const FAILING_WRITES: &[Session] = &[
     Session {
         call: Write,
         trouble: Fails(0),
         stop: None,
-        strays: Strays::ByTurns,
+        strays: ByTurns,
     },
     Session {
         call: Write,
         trouble: Fails(1),
         stop: None,
-        strays: Strays::ByTurns,
+        strays: ByTurns,
     },
     Session {
         call: Write,
         trouble: Fails(2),
         stop: None,
-        strays: Strays::ByTurns,
+        strays: ByTurns,
     },
     Session {
         call: Write,
         trouble: FailsOn(0),
         stop: None,
-        strays: Strays::ByTurns,
+        strays: ByTurns,
     },
     Session {
         call: Write,
         trouble: FailsOn(1),
         stop: None,
-        strays: Strays::ByTurns,
+        strays: ByTurns,
     },
     Session {
         call: Write,
         trouble: FailsOn(2),
         stop: None,
-        strays: Strays::ByTurns,
-    },
-    Session {
-        call: Seek,
-        trouble: Fails(0),
-        stop: None,
-        strays: Strays::ByTurns,
+        strays: ByTurns,
     },
 ];
 
 // Sessions whose handle is at its end, or takes none of the bytes.
-const ENDING: &[Session] = &[
+const ENDING_READS_AND_ITEMS: &[Session] = &[
     Session {
         call: Read,
         trouble: Ends(0),
         stop: None,
-        strays: Strays::ByTurns,
+        strays: ByTurns,
     },
     Session {
         call: Read,
         trouble: Ends(1),
         stop: None,
-        strays: Strays::ByTurns,
+        strays: ByTurns,
     },
     Session {
         call: Read,
         trouble: Ends(2),
         stop: None,
-        strays: Strays::ByTurns,
-    },
-    Session {
-        call: Write,
-        trouble: Ends(0),
-        stop: None,
-        strays: Strays::ByTurns,
-    },
-    Session {
-        call: Write,
-        trouble: Ends(1),
-        stop: None,
-        strays: Strays::ByTurns,
-    },
-    Session {
-        call: Write,
-        trouble: Ends(2),
-        stop: None,
-        strays: Strays::ByTurns,
+        strays: ByTurns,
     },
     Session {
         call: Next,
         trouble: Ends(0),
         stop: None,
-        strays: Strays::ByTurns,
+        strays: ByTurns,
     },
     Session {
         call: Next,
         trouble: Ends(1),
         stop: None,
-        strays: Strays::ByTurns,
+        strays: ByTurns,
     },
     Session {
         call: Next,
         trouble: Ends(2),
         stop: None,
-        strays: Strays::ByTurns,
+        strays: ByTurns,
+    },
+];
+
+const WRITES_OF_NONE: &[Session] = &[
+    Session {
+        call: Write,
+        trouble: Ends(0),
+        stop: None,
+        strays: ByTurns,
+    },
+    Session {
+        call: Write,
+        trouble: Ends(1),
+        stop: None,
+        strays: ByTurns,
+    },
+    Session {
+        call: Write,
+        trouble: Ends(2),
+        stop: None,
+        strays: ByTurns,
     },
 ];
 
 // Sessions of which a stop is under way before a call is left: it came while the job was queued, or once its handle had answered.
-const STOPPED: &[Session] = &[
+const STOPPED_READS: &[Session] = &[
     Session {
         call: Read,
         trouble: Nothing,
         stop: Some(0),
-        strays: Strays::ByTurns,
+        strays: ByTurns,
     },
     Session {
         call: Read,
         trouble: Fails(0),
         stop: Some(0),
-        strays: Strays::ByTurns,
+        strays: ByTurns,
     },
     Session {
         call: Read,
         trouble: Fails(1),
         stop: Some(0),
-        strays: Strays::ByTurns,
+        strays: ByTurns,
     },
     Session {
         call: Read,
         trouble: Nothing,
         stop: Some(4),
-        strays: Strays::ByTurns,
+        strays: ByTurns,
     },
     Session {
         call: Read,
         trouble: Fails(0),
         stop: Some(4),
-        strays: Strays::ByTurns,
+        strays: ByTurns,
     },
     Session {
         call: Read,
         trouble: Fails(1),
         stop: Some(4),
-        strays: Strays::ByTurns,
-    },
-    Session {
-        call: Write,
-        trouble: Nothing,
-        stop: Some(0),
-        strays: Strays::ByTurns,
-    },
-    Session {
-        call: Write,
-        trouble: FailsOn(0),
-        stop: Some(0),
-        strays: Strays::ByTurns,
-    },
-    Session {
-        call: Write,
-        trouble: Fails(2),
-        stop: Some(0),
-        strays: Strays::ByTurns,
-    },
-    Session {
-        call: Write,
-        trouble: Nothing,
-        stop: Some(4),
-        strays: Strays::ByTurns,
-    },
-    Session {
-        call: Write,
-        trouble: FailsOn(0),
-        stop: Some(4),
-        strays: Strays::ByTurns,
-    },
-    Session {
-        call: Write,
-        trouble: Fails(2),
-        stop: Some(4),
-        strays: Strays::ByTurns,
+        strays: ByTurns,
     },
 ];
 
-const STOPPED_TOO: &[Session] = &[
+const STOPPED_WRITES: &[Session] = &[
+    Session {
+        call: Write,
+        trouble: Nothing,
+        stop: Some(0),
+        strays: ByTurns,
+    },
+    Session {
+        call: Write,
+        trouble: FailsOn(0),
+        stop: Some(0),
+        strays: ByTurns,
+    },
+    Session {
+        call: Write,
+        trouble: Fails(2),
+        stop: Some(0),
+        strays: ByTurns,
+    },
+    Session {
+        call: Write,
+        trouble: Nothing,
+        stop: Some(4),
+        strays: ByTurns,
+    },
+    Session {
+        call: Write,
+        trouble: FailsOn(0),
+        stop: Some(4),
+        strays: ByTurns,
+    },
+    Session {
+        call: Write,
+        trouble: Fails(2),
+        stop: Some(4),
+        strays: ByTurns,
+    },
+];
+
+const STOPPED_ITEMS: &[Session] = &[
     Session {
         call: Next,
         trouble: Nothing,
         stop: Some(0),
-        strays: Strays::ByTurns,
+        strays: ByTurns,
     },
     Session {
         call: Next,
         trouble: Ends(1),
         stop: Some(0),
-        strays: Strays::ByTurns,
+        strays: ByTurns,
     },
     Session {
         call: Next,
         trouble: Nothing,
         stop: Some(4),
-        strays: Strays::ByTurns,
+        strays: ByTurns,
     },
     Session {
         call: Next,
         trouble: Ends(1),
         stop: Some(4),
-        strays: Strays::ByTurns,
+        strays: ByTurns,
     },
+];
+
+const STOPPED_SEEKS_AND_OPERATIONS: &[Session] = &[
     Session {
         call: Seek,
         trouble: Nothing,
         stop: Some(0),
-        strays: Strays::ByTurns,
+        strays: ByTurns,
     },
     Session {
         call: Seek,
         trouble: Fails(0),
         stop: Some(0),
-        strays: Strays::ByTurns,
+        strays: ByTurns,
     },
     Session {
         call: Seek,
         trouble: Nothing,
         stop: Some(4),
-        strays: Strays::ByTurns,
+        strays: ByTurns,
     },
     Session {
         call: Seek,
         trouble: Fails(0),
         stop: Some(4),
-        strays: Strays::ByTurns,
+        strays: ByTurns,
     },
     Session {
         call: Operate,
         trouble: Nothing,
         stop: Some(0),
-        strays: Strays::ByTurns,
+        strays: ByTurns,
     },
     Session {
         call: Operate,
         trouble: Nothing,
         stop: Some(4),
-        strays: Strays::ByTurns,
+        strays: ByTurns,
     },
 ];
 
@@ -839,26 +855,51 @@ fn all_go(rt: &HostRuntime, sessions: &[Session]) -> Result<(), Fail> {
 
 // (tests of their own, since all together would take most of the time that a test has)
 #[test]
-fn calls_follow_behind_sessions(rt: HostRuntime) -> Result<(), Fail> {
-    all_go(&rt, FINE)
+fn calls_follow_behind_reads_writes_and_items(rt: HostRuntime) -> Result<(), Fail> {
+    all_go(&rt, READS_WRITES_AND_ITEMS)
 }
 
 #[test]
-fn calls_follow_behind_sessions_that_fail(rt: HostRuntime) -> Result<(), Fail> {
-    all_go(&rt, FAILING)
+fn calls_follow_behind_seeks_and_operations(rt: HostRuntime) -> Result<(), Fail> {
+    all_go(&rt, SEEKS_AND_OPERATIONS)
 }
 
 #[test]
-fn calls_follow_behind_sessions_at_their_end(rt: HostRuntime) -> Result<(), Fail> {
-    all_go(&rt, ENDING)
+fn calls_follow_behind_reads_and_seeks_that_fail(rt: HostRuntime) -> Result<(), Fail> {
+    all_go(&rt, FAILING_READS_AND_SEEKS)
 }
 
 #[test]
-fn calls_follow_behind_stopped_reads_and_writes(rt: HostRuntime) -> Result<(), Fail> {
-    all_go(&rt, STOPPED)
+fn calls_follow_behind_writes_that_fail(rt: HostRuntime) -> Result<(), Fail> {
+    all_go(&rt, FAILING_WRITES)
 }
 
 #[test]
-fn calls_follow_behind_other_stopped_sessions(rt: HostRuntime) -> Result<(), Fail> {
-    all_go(&rt, STOPPED_TOO)
+fn calls_follow_behind_reads_and_items_at_their_end(rt: HostRuntime) -> Result<(), Fail> {
+    all_go(&rt, ENDING_READS_AND_ITEMS)
+}
+
+#[test]
+fn calls_follow_behind_writes_that_take_none(rt: HostRuntime) -> Result<(), Fail> {
+    all_go(&rt, WRITES_OF_NONE)
+}
+
+#[test]
+fn calls_follow_behind_stopped_reads(rt: HostRuntime) -> Result<(), Fail> {
+    all_go(&rt, STOPPED_READS)
+}
+
+#[test]
+fn calls_follow_behind_stopped_writes(rt: HostRuntime) -> Result<(), Fail> {
+    all_go(&rt, STOPPED_WRITES)
+}
+
+#[test]
+fn calls_follow_behind_stopped_items(rt: HostRuntime) -> Result<(), Fail> {
+    all_go(&rt, STOPPED_ITEMS)
+}
+
+#[test]
+fn calls_follow_behind_stopped_seeks_and_operations(rt: HostRuntime) -> Result<(), Fail> {
+    all_go(&rt, STOPPED_SEEKS_AND_OPERATIONS)
 }

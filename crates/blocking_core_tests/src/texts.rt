@@ -3,12 +3,14 @@ use crate::row::agree;
 use blocking_core::pool::Refusal;
 use blocking_world_laws::bytes::Bytes;
 use blocking_world_laws::event::{Act, Event, Party, Reply};
+use blocking_world_laws::step::HandleAnswer;
 use std::test::Fail;
 
 #[test]
 fn texts_that_no_script_shows(rt: HostRuntime) -> Result<(), Fail> {
     let alloc = rt.alloc();
     let bounds = Bytes::new([0u8, 255].to_vec(alloc)?);
+    let letters = Bytes::new(b"a~".to_vec(alloc)?);
     // what was done, the number of the next start, how many workers were started, and whether one more start was refused
     let rows = [
         (
@@ -40,6 +42,14 @@ fn texts_that_no_script_shows(rt: HostRuntime) -> Result<(), Fail> {
             "replied refused numbers",
         ),
         (Act::Got(bounds, Some(7)), 1, 0, false, "got 00ff wake 7"),
+        (Act::GotItem(0, Some(7)), 1, 0, false, "got item 0 wake 7"),
+        (
+            Act::Answered(HandleAnswer::Gave(letters)),
+            1,
+            0,
+            false,
+            "answered 617e",
+        ),
         (Act::Linked(3), 1, 0, false, "linked 3"),
         (
             Act::Copied(u64::MAX),
