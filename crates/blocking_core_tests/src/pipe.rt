@@ -145,6 +145,12 @@ fn pipe_takes_one_piece_of_memory(rt: HostRuntime) {
     play_over::<FlatStore, HostRuntime>(&rt, ONE_PIECE);
 }
 
+// (nor is there one to refuse here)
+#[test]
+fn lending_pipe_takes_its_memory_at_once(rt: HostRuntime) {
+    play_pieces(&rt, lending::ALONE);
+}
+
 #[test]
 fn rows_are_shown(rt: HostRuntime) {
     for rows in [BYTES, ITEMS, lent::LOANS] {

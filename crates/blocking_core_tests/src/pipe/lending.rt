@@ -176,13 +176,15 @@ const MOVED: &[CountedLine] = &[
     (HandMemory, Are(PIECE), 2, 3, PIECE),
 ];
 
+// All calls of these take no memory.
+pub(super) const ALONE: &[PieceRow] = &[PieceRow {
+    name: "pieces, and bytes that are none",
+    capacity: 5,
+    whole: WHOLE,
+    steps: PIECES,
+}];
+
 pub(super) const ROWS: &[PieceRow] = &[
-    PieceRow {
-        name: "pieces, and bytes that are none",
-        capacity: 5,
-        whole: WHOLE,
-        steps: PIECES,
-    },
     PieceRow {
         name: "a piece behind a byte",
         capacity: 5,

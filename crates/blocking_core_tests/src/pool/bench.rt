@@ -360,6 +360,11 @@ impl Bench {
         for worker in 1..=4 {
             self.dismiss(worker);
         }
+        self.let_go(rt);
+    }
+
+    // (its hands are empty)
+    fn let_go(self, rt: &impl Abort) {
         let Bench {
             known: _known,
             pool: _pool,
