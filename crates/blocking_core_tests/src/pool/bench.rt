@@ -269,12 +269,15 @@ impl Bench {
                 waited(&mut self.pool, &mut self.starter, pass, until)
             }
             (Work::End(ending), Hand::Holds(turn, job)) => ended(&mut self.pool, turn, ending, job),
-            (Work::Mark, Hand::Holds(turn, Some(Marked { number, .. }))) => {
-                let is_marked = true;
-                (
-                    Hand::Holds(turn, Some(Marked { number, is_marked })),
-                    Shown::NoAnswer,
-                )
+            (Work::Mark, Hand::Holds(turn, job)) => {
+                let marked = match job {
+                    Some(Marked { number, .. }) => Some(Marked {
+                        number,
+                        is_marked: true,
+                    }),
+                    None => None,
+                };
+                (Hand::Holds(turn, marked), Shown::NoAnswer)
             }
             (_, hand) => (hand, Shown::Misplaced),
         };
