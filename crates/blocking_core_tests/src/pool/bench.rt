@@ -175,6 +175,15 @@ fn out(rt: &impl Abort, hand: Hand) {
     }
 }
 
+// Lets empty hands go.
+fn all_out(rt: &impl Abort, hands: [Hand; 4]) {
+    let [first, second, third, fourth] = hands;
+    out(rt, first);
+    out(rt, second);
+    out(rt, third);
+    out(rt, fourth);
+}
+
 impl Bench {
     pub(super) fn new(alloc: Global, given: Given) -> Bench {
         Bench {
@@ -334,7 +343,6 @@ impl Bench {
         match count {
             Count::Workers => self.pool.thread_count(),
             Count::Idle => self.pool.idle_count(),
-            Count::Arriving => self.pool.arriving_count(),
             Count::Queued => self.pool.queue_len(),
             Count::Ready => self.pool.ready_len(),
         }
@@ -375,11 +383,7 @@ impl Bench {
             starter: _starter,
             hands,
         } = self;
-        let [first, second, third, fourth] = hands;
-        out(rt, first);
-        out(rt, second);
-        out(rt, third);
-        out(rt, fourth);
+        all_out(rt, hands);
     }
 
     // Lets a worker end its turn, and take what is queued, until it stops.

@@ -10,26 +10,6 @@ use super::step::{Line, NEW, Row};
 use crate::stop::stop;
 
 pub(super) const ROWS: &[Row] = &[
-    Row {
-        name: "two of six jobs are taken",
-        pool: NEW,
-        begin: &[],
-        steps: &[
-            (Add(0), Accepted(1)),
-            (Add(1), Accepted(2)),
-            (Add(2), Accepted(3)),
-            (Add(3), Accepted(4)),
-            (Add(4), Accepted(5)),
-            (Add(5), Accepted(6)),
-            (Arrive, Arrived(1)),
-            (Worker(1, Take), Runs(0)),
-            (Worker(1, End(Done)), Free),
-            (Arrive, Arrived(2)),
-            (Worker(2, Take), Runs(1)),
-            (Worker(2, End(Done)), Free),
-        ],
-        starts: &[1, 2],
-    },
     // The other pool has a job of the same number, which is queued there.
     Row {
         name: "a turn that is done",
