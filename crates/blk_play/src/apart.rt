@@ -1,9 +1,8 @@
 //! Scripts whose lines stand in several threads.
-use crate::check::Breach;
 use crate::gates::Gates;
 use crate::line::{Block, Line};
 use crate::patience::Patience;
-use crate::player::{DEPTH, Flow, Player};
+use crate::player::{Apart, Flow, Player};
 use crate::pool::{Pool, System};
 use crate::script::{Numbered, Script};
 use crate::stage::Stage;
@@ -12,13 +11,6 @@ use std::sync::Arc;
 use std::sync::atomic::AtomicBool;
 use std::thread::JoinHandle;
 use std::{io, thread};
-
-/// What a thread's lines showed, and the law that they broke.
-#[derive(Drop)]
-pub(crate) struct Apart {
-    pub text: String,
-    pub breach: Option<Breach>,
-}
 
 /// What a script needs beside its stage.
 #[derive(Drop)]
@@ -51,7 +43,7 @@ impl Setup {
     fn play_apart<S: Stage>(&self, stage: S, from: usize, to: usize) -> io::Result<Apart> {
         let mut player = self.player(stage)?;
         player.keep();
-        let _ = player.play(self.lines(from, to), DEPTH)?;
+        let _ = player.play(self.lines(from, to))?;
         player.drop_all();
         Ok(player.into_apart())
     }
@@ -128,9 +120,7 @@ impl<J: Carrier<H> + Send + 'static, H: System> Ensemble<J, H> {
         let mut place = 0usize;
         for _ in 0..lines.len() {
             let next = next_of_threads(lines, place);
-            let flow = self
-                .player
-                .play(lines.get(place..next).unwrap_or(&[]), DEPTH)?;
+            let flow = self.player.play(lines.get(place..next).unwrap_or(&[]))?;
             if flow != Flow::GoesOn {
                 return Ok(flow);
             }

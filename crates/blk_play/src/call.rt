@@ -6,28 +6,50 @@ use std::sync::atomic::{AtomicU64, AtomicUsize, Ordering};
 use std::thread;
 use std::time::{Clock, Duration};
 
-/// The calls of clients that are inside, and the most of them that there may be.
+/// The calls that are inside at once, and how many there may be.
 #[derive(Drop)]
 pub(crate) struct Inside {
     count: AtomicUsize,
-    /// How many may be inside at once. (The greatest limit since none was.)
-    pub most: AtomicUsize,
-    /// How many were too many.
-    pub too_many: AtomicUsize,
+    // The most that were.
+    seen: AtomicUsize,
+    // How many may be: the greatest limit that held since none was.
+    most: AtomicUsize,
+    // How many were too many.
+    too_many: AtomicUsize,
 }
 
 impl Inside {
     pub(crate) fn new() -> Inside {
         Inside {
             count: AtomicUsize::new(0),
+            seen: AtomicUsize::new(0),
             most: AtomicUsize::new(usize::MAX),
             too_many: AtomicUsize::new(0),
         }
     }
 
+    /// A limit is about to be set. Where calls are inside, the greater of both holds.
+    pub(crate) fn allow(&self, most: usize) {
+        if self.count.load(Ordering::SeqCst) > 0 {
+            self.most.fetch_max(most, Ordering::SeqCst);
+        } else {
+            self.most.store(most, Ordering::SeqCst);
+        }
+    }
+
+    /// The most that were inside at once.
+    pub(crate) fn seen(&self) -> usize {
+        self.seen.load(Ordering::SeqCst)
+    }
+
+    pub(crate) fn too_many(&self) -> usize {
+        self.too_many.load(Ordering::SeqCst)
+    }
+
     fn enter(&self) {
-        let before = self.count.fetch_add(1, Ordering::SeqCst);
-        if before >= self.most.load(Ordering::SeqCst) {
+        let inside = self.count.fetch_add(1, Ordering::SeqCst).saturating_add(1);
+        self.seen.fetch_max(inside, Ordering::SeqCst);
+        if inside > self.most.load(Ordering::SeqCst) {
             self.too_many.fetch_add(1, Ordering::SeqCst);
         }
     }
@@ -118,7 +140,6 @@ pub(crate) struct Scripted<R: Drop> {
     rt: R,
     plan: CallPlan,
     inside: Option<Arc<Inside>>,
-    all: Arc<Inside>,
     dropping: Dropping,
 }
 
@@ -128,7 +149,6 @@ impl<R: Drop> Scripted<R> {
         plan: CallPlan,
         track: Arc<CallTrack>,
         gates: Arc<Gates>,
-        all: Arc<Inside>,
         inside: Option<Arc<Inside>>,
     ) -> Scripted<R> {
         let dropping = Dropping {
@@ -140,7 +160,6 @@ impl<R: Drop> Scripted<R> {
             rt,
             plan,
             inside,
-            all,
             dropping,
         }
     }
@@ -152,7 +171,6 @@ impl<R: Drop> Drop for Scripted<R> {
             rt: _,
             plan: _,
             inside: _,
-            all: _,
             dropping,
         } = self;
         dropping.happen();
@@ -169,11 +187,9 @@ impl<R: Clock + Drop> Call for Scripted<R> {
             rt,
             plan,
             inside,
-            all,
             mut dropping,
         } = self;
         dropping.track.made.fetch_add(1, Ordering::SeqCst);
-        all.enter();
         if let Some(inside) = &inside {
             inside.enter();
         }
@@ -184,7 +200,6 @@ impl<R: Clock + Drop> Call for Scripted<R> {
         if let Some(inside) = &inside {
             inside.leave();
         }
-        all.leave();
         dropping.stop = plan.answer_dropping;
         Answered {
             number: plan.answer,

@@ -3,7 +3,7 @@ use crate::call::CallTrack;
 use crate::check::Breach;
 use crate::desk::Desk;
 use crate::line::{CopierLine, JobLine, TaskLine};
-use crate::owner::POLLS;
+use crate::patience::POLLS;
 use crate::shown::{NOTHING, Shown};
 use crate::stage::{Awaits, Copies, Copying, Gave, Stage};
 use crate::track::Track;

@@ -1,16 +1,11 @@
 //! Copiers over the owners of scripted handles.
-use crate::handle::Handle;
-use crate::owner::why_of;
+use crate::owner::{Opened, why_of};
 use crate::stage::{Copies, Copying};
 use crate::work::Carrier;
 use blocking::{AsyncRead, AsyncWrite, Copier, CopyFault, Job, Runtime};
-use blocking_anytime::Open;
 use futures::Future;
 use futures::task::Poll;
 use futures::test::MockTask;
-
-/// An owner that can't be closed.
-pub(crate) type Opened<J, H> = Open<Handle, u64, J, H>;
 
 /// A copier over two such owners.
 #[derive(Drop)]

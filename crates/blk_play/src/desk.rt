@@ -18,6 +18,8 @@ pub(crate) struct Desk {
     pub whole: Vec<u8>,
     /// What a line shows that is longer than a word.
     pub text: String,
+    /// The same of the first of several parties.
+    pub first: String,
     /// Further tasks to poll by.
     pub wakers: Vec<MockTask>,
     /// The first law that was broken.

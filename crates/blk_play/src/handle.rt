@@ -7,7 +7,7 @@ use std::fmt::{Debug, Formatter};
 use std::io::{ErrorKind, Read, Seek, SeekFrom, Write};
 use std::sync::Arc;
 use std::sync::atomic::Ordering;
-use std::{fmt, io};
+use std::{fmt, io, thread};
 
 /// The handle: a cursor on what its plan says.
 pub(crate) struct Handle {
@@ -47,6 +47,9 @@ impl Handle {
     // Counts a call, has it stand where it is to, and says what it does.
     fn call(&mut self, kind: Kind) -> Does {
         self.track.count_call(kind);
+        for _ in 0..self.plan.yields {
+            thread::yield_now();
+        }
         let by = self.plan.by;
         let Some(planned) = self.plan.next_answer(kind) else {
             return Does::Cursor(by);
@@ -95,7 +98,7 @@ impl Handle {
 
     // Moves bytes from the cursor on into a buffer, and says how many.
     fn give(&mut self, buf: &mut [u8], most: usize) -> usize {
-        let mut count = 0usize;
+        let (mut count, before) = (0usize, self.track.gave.len());
         for slot in buf.iter_mut() {
             if count >= most {
                 break;
@@ -104,10 +107,13 @@ impl Handle {
                 break;
             };
             *slot = (item % 256) as u8;
-            self.track.gave.add(item % 256);
+            self.track
+                .gave
+                .put(before.saturating_add(count), item % 256);
             self.place = self.place.saturating_add(1);
             count = count.saturating_add(1);
         }
+        self.track.gave.show(before.saturating_add(count));
         count
     }
 
@@ -120,20 +126,23 @@ impl Handle {
                 None => bytes.push(byte).ok()?,
             }
         }
-        self.track.took.add(u64::from(byte));
         self.place = self.place.saturating_add(1);
         Some(())
     }
 
     // Takes bytes where the cursor is, and says how many.
     fn take(&mut self, bytes: &[u8], most: usize) -> usize {
-        let mut count = 0usize;
+        let (mut count, before) = (0usize, self.track.took.len());
         for byte in bytes.iter() {
             if count >= most || self.put(*byte).is_none() {
                 break;
             }
+            self.track
+                .took
+                .put(before.saturating_add(count), u64::from(*byte));
             count = count.saturating_add(1);
         }
+        self.track.took.show(before.saturating_add(count));
         count
     }
 

@@ -1,8 +1,8 @@
 //! What a line of a script says.
 use crate::call::CallPlan;
-use crate::gates::{GateNo, Stop};
+use crate::gates::{GateNo, gate_of};
 use crate::plan::{Answer, Answers, Kind, Plan, Planned, Source};
-use crate::stage::Ask;
+use crate::stage::{Ask, Lasting};
 use crate::waiter::JobPlan;
 use crate::words::{LineFault, Words};
 use std::alloc::Global;
@@ -14,15 +14,6 @@ type Read<T> = Result<T, LineFault>;
 pub(crate) struct Parties {
     pub first: usize,
     pub last: usize,
-}
-
-/// A future that borrows its owner, as a line says it.
-#[derive(Drop)]
-pub(crate) enum Future {
-    Exact(usize),
-    Rest,
-    Whole(Vec<u8>),
-    Jump(u64),
 }
 
 /// Where a future is dropped.
@@ -46,11 +37,10 @@ pub(crate) enum OwnerLine {
     Fill(usize, bool),
     /// Writes all by polls.
     Put(Vec<u8>),
-    PutCycle(usize),
     /// Reads to the end by so many bytes, or takes all items.
     All(Option<usize>),
-    Finish(Future),
-    Leave(Future, Point),
+    Finish(Lasting),
+    Leave(Lasting, Point),
     Says,
     Gone,
     SoonGone,
@@ -114,10 +104,13 @@ pub(crate) enum Counted {
 #[derive(Drop)]
 pub(crate) enum Alone {
     /// The text of a handle's plan, which was read once.
-    Handle(usize, String),
-    /// An owner is made. None is the default; all that there is where its capacity is too large for any memory.
-    New(Option<usize>, Option<u32>),
-    Call(CallPlan),
+    Handle(Parties, String),
+    /// So many owners are made. None is the default; all that there is where its capacity is too large for any memory.
+    New(Option<usize>, Option<u32>, u64),
+    /// The same, which can't be closed.
+    Open(Option<usize>, u64),
+    /// Calls are made: this one, and so many more, each of which answers one more, and maybe for one client more.
+    Call(CallPlan, u64, bool),
     Add(JobPlan),
     Link(usize, usize, usize),
     Limit(usize),
@@ -135,6 +128,9 @@ pub(crate) enum Alone {
     Sleeps(u64),
     Clock,
     Within(u64),
+    Passed(u64),
+    /// The most calls of a client that were inside at once.
+    Inside(u32),
     Want(String),
     SoonWoken(usize),
     /// What `scripts/refusals` looks for.
@@ -146,8 +142,8 @@ pub(crate) enum Alone {
 pub(crate) enum Block {
     /// Until one try is in time.
     Tries(u64),
-    /// So many rounds, of which so many may last so many milliseconds.
-    Repeat(u64, Option<(u64, u64)>),
+    /// So many rounds, of which so many may last so many milliseconds; none begins behind so many.
+    Repeat(u64, Option<(u64, u64)>, u64),
     Thread,
 }
 
@@ -190,12 +186,29 @@ fn read_ask(alloc: Global, words: &mut Words<'_>) -> Read<Ask> {
     })
 }
 
-fn read_future(alloc: Global, words: &mut Words<'_>) -> Read<Future> {
+// So many bytes, byte i being i modulo 251.
+fn cycle(alloc: Global, count: usize) -> Read<Vec<u8>> {
+    let mut bytes = Vec::new(alloc);
+    let mut byte = 0u8;
+    for _ in 0..count {
+        bytes.push(byte)?;
+        byte = if byte == 250 {
+            0
+        } else {
+            byte.saturating_add(1)
+        };
+    }
+    Ok(bytes)
+}
+
+fn read_future(alloc: Global, words: &mut Words<'_>) -> Read<Lasting> {
     Ok(match words.word()? {
-        "exact" => Future::Exact(words.count()?),
-        "rest" => Future::Rest,
-        "whole" => Future::Whole(words.bytes(alloc)?),
-        "op" => Future::Jump(words.number()?),
+        "exact" => Lasting::Exact(words.count()?),
+        "rest" => Lasting::Rest,
+        "whole" if words.takes("cycle") => Lasting::Whole(cycle(alloc, words.count()?)?),
+        "whole" => Lasting::Whole(words.bytes(alloc)?),
+        "op" => Lasting::Jump(words.number()?),
+        "inner" => Lasting::Inner,
         _ => return Err(LineFault::NotALine),
     })
 }
@@ -240,7 +253,7 @@ fn read_calls(words: &mut Words<'_>) -> Read<OwnerLine> {
 // What is written by polls.
 fn read_put(alloc: Global, words: &mut Words<'_>) -> Read<OwnerLine> {
     if words.takes("cycle") {
-        return Ok(OwnerLine::PutCycle(words.count()?));
+        return Ok(OwnerLine::Put(cycle(alloc, words.count()?)?));
     }
     Ok(OwnerLine::Put(words.bytes(alloc)?))
 }
@@ -350,23 +363,33 @@ fn read_capacity(words: &mut Words<'_>) -> Read<Option<usize>> {
     }
 }
 
-fn read_call(words: &mut Words<'_>) -> Read<CallPlan> {
+fn read_call(words: &mut Words<'_>) -> Read<Alone> {
+    let stop = words.stop()?;
+    let (first, last) = words.range()?;
     let mut plan = CallPlan {
-        stop: words.stop()?,
-        answer: words.number()?,
+        stop,
+        answer: first,
         ..CallPlan::default()
     };
     if words.takes("takes") {
         plan.takes = words.number()?;
     }
-    plan.client = read_client(words)?.unwrap_or(0);
+    let mut are_for_many = false;
+    if words.takes("for") {
+        let (client, more) = words.range()?;
+        plan.client = u32::try_from(client).or(Err(LineFault::NotALine))?;
+        are_for_many = more > client;
+    }
     if words.takes("drop") {
         plan.dropping = words.stop()?;
     }
     if words.takes("answer") {
         plan.answer_dropping = words.stop()?;
     }
-    Ok(plan)
+    match last.checked_sub(first) {
+        Some(more) => Ok(Alone::Call(plan, more, are_for_many)),
+        None => Err(LineFault::NotALine),
+    }
 }
 
 fn read_job(words: &mut Words<'_>) -> Read<JobPlan> {
@@ -421,25 +444,37 @@ fn read_soon(alloc: Global, words: &mut Words<'_>) -> Read<Line> {
     })
 }
 
+// The gate that a word names.
+fn gate_in(word: &str) -> Option<GateNo> {
+    let mut letters = word.chars();
+    let gate = letters.next().and_then(gate_of)?;
+    letters.next().is_none().then_some(gate)
+}
+
 // A line that is for nobody, whose first word is this.
 fn read_alone(alloc: Global, name: &str, words: &mut Words<'_>) -> Read<Alone> {
     Ok(match name {
         "handle" => {
-            let number = words.count()?;
+            let handles = read_parties(words)?;
             let text = words.rest();
             drop(plan_of(alloc, text)?);
             *words = Words::new("");
-            Alone::Handle(number, String::from_str(alloc, text)?)
+            Alone::Handle(handles, String::from_str(alloc, text)?)
         }
         "new" => {
             let capacity = read_capacity(words)?;
-            Alone::New(capacity, read_client(words)?)
+            let client = read_client(words)?;
+            Alone::New(capacity, client, read_times(words)?)
         }
-        "call" => Alone::Call(read_call(words)?),
+        "call" => read_call(words)?,
         "add" => Alone::Add(read_job(words)?),
         "link" => Alone::Link(words.count()?, words.count()?, words.count()?),
         "limit" => Alone::Limit(words.count()?),
         "clients" => Alone::Clients(read_limit_for_clients(words)?),
+        "open" if words.peek().and_then(gate_in).is_none() => {
+            let capacity = read_capacity(words)?;
+            Alone::Open(capacity, read_times(words)?)
+        }
         "sweep" => Alone::Sweep,
         "open" => Alone::Gate(words.gate()?, true),
         "shut" => Alone::Gate(words.gate()?, false),
@@ -469,6 +504,8 @@ fn read_timed(alloc: Global, name: &str, words: &mut Words<'_>) -> Read<Alone> {
         "sleeps" => Alone::Sleeps(words.number()?),
         "clock" => Alone::Clock,
         "within" => Alone::Within(words.number()?),
+        "passed" => Alone::Passed(words.number()?),
+        "inside" => Alone::Inside(words.client()?),
         "want" => {
             let text = words.rest();
             *words = Words::new("");
@@ -491,7 +528,12 @@ fn read_block(name: &str, words: &mut Words<'_>) -> Read<Block> {
             } else {
                 None
             };
-            Block::Repeat(rounds, late)
+            let most = if words.takes("for") {
+                words.number()?
+            } else {
+                u64::MAX
+            };
+            Block::Repeat(rounds, late, most)
         }
         "thread" => Block::Thread,
         _ => return Err(LineFault::NotALine),
@@ -619,6 +661,7 @@ pub(crate) fn plan_of(alloc: Global, text: &str) -> Read<Plan> {
         words.word()?;
         match name {
             "by" => plan.by = words.count()?,
+            "yields" => plan.yields = words.number()?,
             "logs" => plan.logged = words.count()?,
             "reads" => read_answers(alloc, &mut words, &mut plan.reads)?,
             "writes" => read_answers(alloc, &mut words, &mut plan.writes)?,
@@ -645,9 +688,8 @@ pub(crate) fn room_of(line: &Line) -> usize {
         | OwnerLine::Await(Ask::Read(count))
         | OwnerLine::Fill(count, _)
         | OwnerLine::All(Some(count))
-        | OwnerLine::Finish(Future::Exact(count))
-        | OwnerLine::Leave(Future::Exact(count), _) => *count,
-        OwnerLine::PutCycle(count) => (*count).min(65_536),
+        | OwnerLine::Finish(Lasting::Exact(count))
+        | OwnerLine::Leave(Lasting::Exact(count), _) => *count,
         _ => 0,
     }
 }

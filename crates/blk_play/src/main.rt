@@ -23,6 +23,7 @@ mod patience;
 mod plan;
 mod player;
 mod pool;
+mod rounds;
 mod script;
 mod shown;
 mod stage;

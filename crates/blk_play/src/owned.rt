@@ -1,11 +1,11 @@
 //! An owner as a script has it, and what its lines show.
 use crate::check::{Observer, Session, session_of};
 use crate::desk::Desk;
-use crate::line::{Future, OwnerLine, Point};
-use crate::owner::POLLS;
+use crate::line::{OwnerLine, Point};
+use crate::patience::POLLS;
 use crate::plan::Kind;
 use crate::shown::{NOTHING, Shown, bytes_read};
-use crate::stage::{Ask, Lasting, Owner, Reply};
+use crate::stage::{Ask, Lasting, Leaving, Owner, Reply, Why};
 use futures::task::Poll;
 use futures::test::MockTask;
 use std::fmt::Write;
@@ -40,10 +40,10 @@ fn answered(came: Poll<Reply>, room: &[u8]) -> Shown {
 }
 
 // The session that a future is of.
-fn session_in(future: &Future) -> Session {
+fn session_in(future: &Lasting) -> Session {
     match future {
-        Future::Exact(_) | Future::Rest => Session::Reads,
-        Future::Whole(_) | Future::Jump(_) => Session::Other,
+        Lasting::Exact(_) | Lasting::Rest => Session::Reads,
+        Lasting::Whole(_) | Lasting::Jump(_) | Lasting::Inner => Session::Other,
     }
 }
 
@@ -132,12 +132,12 @@ impl<O: Owner> Owned<O> {
         Poll::Pending
     }
 
-    fn awaits(&mut self, ask: &Ask, desk: &mut Desk) -> Shown {
+    fn awaits(&mut self, ask: &Ask, desk: &mut Desk) -> io::Result<Shown> {
         if let Ask::Operate(to) = ask {
-            return self.finish(&Future::Jump(*to), desk);
+            return self.finish(&Lasting::Jump(*to), desk);
         }
         let came = self.await_at(ask, 0, desk);
-        answered(came, desk.room.as_slice())
+        Ok(answered(came, desk.room.as_slice()))
     }
 
     // Reads until so many bytes came, or something else.
@@ -190,27 +190,9 @@ impl<O: Owner> Owned<O> {
         Shown::Number(taken as u64, "taken")
     }
 
-    // Writes so many bytes, byte i being i modulo 251.
-    fn put_cycle(&mut self, count: usize, desk: &mut Desk) -> io::Result<Shown> {
-        let mut bytes = std::mem::replace(&mut desk.whole, Vec::new(desk.alloc));
-        bytes.clear();
-        let mut byte = 0u8;
-        for _ in 0..count {
-            bytes.push(byte)?;
-            byte = if byte == 250 {
-                0
-            } else {
-                byte.saturating_add(1)
-            };
-        }
-        let shown = self.put(bytes.as_slice(), desk);
-        desk.whole = bytes;
-        Ok(shown)
-    }
-
     // Reads to the end by so many bytes, with the faults between. What came stands in the text, or is only counted where it is long.
     fn read_all(&mut self, by: usize, desk: &mut Desk) -> io::Result<Shown> {
-        let (mut count, mut is_in_place) = (0u64, true);
+        let mut places = Places::new();
         desk.text.clear();
         for _ in 0..u64::MAX {
             match self.await_at(&Ask::Read(by), 0, desk) {
@@ -218,114 +200,110 @@ impl<O: Owner> Owned<O> {
                 Poll::Ready(Reply::Read(more)) => {
                     for byte in desk.room.iter().take(more) {
                         let byte = *byte;
-                        is_in_place = is_in_place && u64::from(byte) == count % 251;
-                        if count < 64 {
+                        if places.count < 64 {
                             write!(desk.text, "{byte:02x}")?;
                         }
-                        count = count.saturating_add(1);
+                        places.add(u64::from(byte));
                     }
                 }
                 Poll::Ready(Reply::Failed(_)) => desk.text.push_str("!")?,
                 came => return Ok(answered(came, &[])),
             }
         }
-        Ok(all_came(count, is_in_place))
+        places.shown(desk)
     }
 
     fn all_items(&mut self, desk: &mut Desk) -> io::Result<Shown> {
-        let (mut count, mut is_in_place) = (0u64, true);
+        let mut places = Places::new();
         desk.text.clear();
         for _ in 0..u64::MAX {
             match self.await_at(&Ask::Next, 0, desk) {
                 Poll::Ready(Reply::NoMore) => break,
                 Poll::Ready(Reply::Item(item)) => {
-                    is_in_place = is_in_place && (item == count % 251 || item == count);
-                    if count < 16 {
-                        write!(desk.text, "{item} ")?;
+                    if places.count < 16 {
+                        let before = if places.count > 0 { " " } else { "" };
+                        write!(desk.text, "{before}{item}")?;
                     }
-                    count = count.saturating_add(1);
+                    places.add(item);
                 }
                 came => return Ok(answered(came, &[])),
             }
         }
-        Ok(all_came(count, is_in_place))
+        places.shown(desk)
     }
 
     // What a future answers that is polled until it does.
-    fn finish(&mut self, future: &Future, desk: &mut Desk) -> Shown {
+    fn finish(&mut self, future: &Lasting, desk: &mut Desk) -> io::Result<Shown> {
         self.looks(session_in(future), desk);
-        let Some(owner) = &mut self.owner else {
-            return NOTHING;
-        };
         let start = desk.whole.len();
-        let lasting = match future {
-            Future::Exact(count) => match desk.room.as_mut_slice().get_mut(..*count) {
-                Some(room) => Lasting::Exact(room),
-                None => return NOTHING,
-            },
-            Future::Rest => Lasting::Rest(&mut desk.whole),
-            Future::Whole(bytes) => Lasting::Whole(bytes.as_slice()),
-            Future::Jump(to) => Lasting::Jump(*to),
+        let came = {
+            let Some(owner) = &mut self.owner else {
+                return Ok(NOTHING);
+            };
+            let count = exact_of(future);
+            let Some(room) = desk.room.as_mut_slice().get_mut(..count) else {
+                return Ok(NOTHING);
+            };
+            owner.finish(&self.waker, &desk.patience, future, room, &mut desk.whole)
         };
-        let came = owner.finish(&self.waker, &desk.patience, lasting);
-        self.is_finished(future, came, start, desk)
-    }
-
-    // Compares what a future did, and shows it.
-    fn is_finished(
-        &mut self,
-        future: &Future,
-        came: Poll<Reply>,
-        start: usize,
-        desk: &mut Desk,
-    ) -> Shown {
         let reply = match came {
             Poll::Ready(reply) => Some(reply),
             Poll::Pending => None,
         };
+        self.compares(future, reply, start, desk);
+        match (future, reply) {
+            (Lasting::Rest, Some(Reply::Failed(why))) => {
+                behind(why, desk, start)?;
+                Ok(Shown::Text)
+            }
+            (Lasting::Rest, Some(Reply::Read(count))) => {
+                Ok(bytes_read(desk.whole.get(start..).unwrap_or(&[]), count))
+            }
+            (_, Some(Reply::Read(count))) => Ok(bytes_read(desk.room.as_slice(), count)),
+            (_, Some(Reply::Nothing)) => Ok(NOTHING),
+            (_, Some(reply)) => Ok(Shown::Reply(reply)),
+            (_, None) => Ok(Shown::Word("no answer")),
+        }
+    }
+
+    // Compares what a future did.
+    fn compares(&mut self, future: &Lasting, reply: Option<Reply>, start: usize, desk: &mut Desk) {
         let breach = match (future, reply) {
-            (Future::Exact(count), Some(Reply::Read(_))) => {
+            (Lasting::Exact(count), Some(Reply::Read(_))) => {
                 self.observer.got(desk.room.get(..*count).unwrap_or(&[]))
             }
-            (Future::Rest, Some(Reply::Read(_))) => {
+            (Lasting::Rest, Some(Reply::Read(_))) => {
                 self.observer.got(desk.whole.get(start..).unwrap_or(&[]))
             }
-            (Future::Whole(bytes), Some(Reply::Done)) => {
+            (Lasting::Whole(bytes), Some(Reply::Done)) => {
                 self.observer.wrote(bytes.as_slice());
                 None
             }
-            (Future::Jump(_), _) => None,
+            (Lasting::Jump(_), _) => None,
             _ => {
                 self.observer.is_left();
                 None
             }
         };
         desk.note(breach);
-        match future {
-            Future::Rest => answered(came, desk.whole.get(start..).unwrap_or(&[])),
-            _ => answered(came, desk.room.as_slice()),
-        }
     }
 
     // Drops a future at a point.
-    fn leave(&mut self, future: &Future, point: Point, desk: &mut Desk) -> Shown {
+    fn leave(&mut self, future: &Lasting, point: Point, desk: &mut Desk) -> Shown {
         self.looks(session_in(future), desk);
+        let start = desk.whole.len();
         let Some(owner) = &mut self.owner else {
             return NOTHING;
         };
-        if let Point::Unpolled = point {
-            return Shown::Word("left");
-        }
-        let lasting = match future {
-            Future::Exact(count) => match desk.room.as_mut_slice().get_mut(..*count) {
-                Some(room) => Lasting::Exact(room),
-                None => return NOTHING,
-            },
-            Future::Rest => Lasting::Rest(&mut desk.whole),
-            Future::Whole(bytes) => Lasting::Whole(bytes.as_slice()),
-            Future::Jump(to) => Lasting::Jump(*to),
+        let count = exact_of(future);
+        let Some(room) = desk.room.as_mut_slice().get_mut(..count) else {
+            return NOTHING;
         };
         let (task, gates) = (&self.waker, &*desk.gates);
+        let leaving = Leaving {
+            lasting: future,
+            is_polled: !matches!(point, Point::Unpolled),
+        };
         let has_come = || match point {
             Point::Unpolled | Point::Polled => true,
             Point::Reached(gate) => gates.reached(gate) > 0,
@@ -334,9 +312,15 @@ impl<O: Owner> Owned<O> {
                 task.is_woken()
             }
         };
-        let is_left = owner.leave(task, &desk.patience, lasting, has_come);
+        let rest = &mut desk.whole;
+        let is_left = owner.leave(task, &desk.patience, leaving, room, rest, has_come);
         self.observer.is_left();
-        whether(is_left, "left", "early")
+        match future {
+            Lasting::Rest if is_left => {
+                Shown::Count("left", desk.whole.len().saturating_sub(start) as u64)
+            }
+            _ => whether(is_left, "left", "early"),
+        }
     }
 
     // How often the handle was called, or whether that is within a range.
@@ -355,20 +339,16 @@ impl<O: Owner> Owned<O> {
     // The bytes that the handle took.
     fn took(&self, desk: &mut Desk) -> io::Result<Shown> {
         let took = &self.observer.track.took;
-        let count = took.len();
+        let mut places = Places::new();
         desk.text.clear();
-        if count > 64 {
-            let in_place = (0..count).all(|place| match took.get(place) {
-                Some(byte) => u64::from(byte) == (place as u64) % 251,
-                None => true,
-            });
-            return Ok(all_came(count as u64, in_place));
+        for place in 0..took.len() {
+            let byte = took.get(place).map_or(places.count % 251, u64::from);
+            if places.count < 64 {
+                write!(desk.text, "{byte:02x}")?;
+            }
+            places.add(byte);
         }
-        for place in 0..count {
-            let byte = took.get(place).unwrap_or(0);
-            write!(desk.text, "{byte:02x}")?;
-        }
-        Ok(all_came(count as u64, false))
+        places.shown(desk)
     }
 
     fn says(&self, desk: &mut Desk) -> io::Result<Shown> {
@@ -424,14 +404,13 @@ impl<O: Owner> Owned<O> {
                 let came = self.poll(ask, *waker, desk);
                 shown(came, desk.room.as_slice())
             }
-            OwnerLine::Await(ask) => self.awaits(ask, desk),
+            OwnerLine::Await(ask) => self.awaits(ask, desk)?,
             OwnerLine::Fill(count, false) => self.fill(*count, desk),
             OwnerLine::Fill(count, true) => self.fill_items(*count, desk),
             OwnerLine::Put(bytes) => self.put(bytes.as_slice(), desk),
-            OwnerLine::PutCycle(count) => self.put_cycle(*count, desk)?,
             OwnerLine::All(Some(by)) => self.read_all(*by, desk)?,
             OwnerLine::All(None) => self.all_items(desk)?,
-            OwnerLine::Finish(future) => self.finish(future, desk),
+            OwnerLine::Finish(future) => self.finish(future, desk)?,
             OwnerLine::Leave(future, point) => self.leave(future, *point, desk),
             OwnerLine::Client(client) => self.set_client(*client),
             OwnerLine::Drop => self.drop_owner(),
@@ -440,10 +419,63 @@ impl<O: Owner> Owned<O> {
     }
 }
 
-// What came to an end: as a text where it is short.
-fn all_came(count: u64, is_in_place: bool) -> Shown {
-    if count <= 16 || count <= 64 && !is_in_place {
-        return Shown::Text;
+// Numbers that come one after another, and whether each is its place: modulo 251 or 256, or as it is.
+#[derive(Drop)]
+struct Places {
+    count: u64,
+    are_in_cycle: bool,
+    are_counted: bool,
+}
+
+impl Places {
+    fn new() -> Places {
+        Places {
+            count: 0,
+            are_in_cycle: true,
+            are_counted: true,
+        }
     }
-    Shown::Number(count, if is_in_place { "in place" } else { "in all" })
+
+    fn add(&mut self, number: u64) {
+        let place = self.count;
+        self.are_in_cycle = self.are_in_cycle && number == place % 251;
+        self.are_counted = self.are_counted && (number == place || number == place % 256);
+        self.count = place.saturating_add(1);
+    }
+
+    // As a text where they are few, which stands on the desk.
+    fn shown(self, desk: &mut Desk) -> io::Result<Shown> {
+        let is_in_place = self.are_in_cycle || self.are_counted;
+        if self.count == 0 && desk.text.is_empty() {
+            desk.text.push_str("-")?;
+        }
+        if self.count <= 16 || self.count <= 64 && !is_in_place {
+            return Ok(Shown::Text);
+        }
+        let word = if is_in_place { "in place" } else { "in all" };
+        Ok(Shown::Number(self.count, word))
+    }
+}
+
+// How many bytes a future fills.
+fn exact_of(future: &Lasting) -> usize {
+    match future {
+        Lasting::Exact(count) => *count,
+        _ => 0,
+    }
+}
+
+// A fault, and what was read before it, as a text.
+fn behind(why: Why, desk: &mut Desk, start: usize) -> io::Result<()> {
+    desk.text.clear();
+    write!(desk.text, "replied {why}")?;
+    let bytes = desk.whole.get(start..).unwrap_or(&[]);
+    if !bytes.is_empty() {
+        desk.text.push_str(" behind ")?;
+    }
+    for byte in bytes.iter().take(64) {
+        let byte = *byte;
+        write!(desk.text, "{byte:02x}")?;
+    }
+    Ok(())
 }

@@ -1,12 +1,13 @@
 //! The owner of a scripted handle, over any pool that carries its jobs.
 use crate::handle::{Handle, Jump};
-use crate::patience::Patience;
-use crate::stage::{Ask, Lasting, Owner, Reply, Why};
+use crate::patience::{POLLS, Patience};
+use crate::stage::{Ask, Lasting, Leaving, Owner, Reply, Why};
 use crate::work::Carrier;
 use blocking::{
     AsyncRead, AsyncReadExt, AsyncSeek, AsyncWrite, AsyncWriteExt, IntoInner, IoFault, Runtime,
     Unblock,
 };
+use blocking_anytime::Open;
 use blocking_core::io::Fault;
 use blocking_core::pool::{Job, Refusal, Refused};
 use futures::task::{Context, Poll};
@@ -16,15 +17,17 @@ use std::fmt::Write;
 use std::io;
 use std::io::{ErrorKind, SeekFrom};
 
-/// How often a future is polled that has to answer.
-pub(crate) const POLLS: u32 = 1_000;
-
 type Lent<J, H> = Unblock<Handle, u64, J, H>;
+
+/// An owner that can't be closed.
+pub(crate) type Opened<J, H> = Open<Handle, u64, J, H>;
 
 /// An owner, or what is left of one whose handle was asked for for good.
 #[derive(Drop)]
 pub(crate) enum Lending<J: Job, H: Runtime> {
     Owner(Lent<J, H>),
+    /// One that can't be closed.
+    Open(Opened<J, H>),
     Taking(IntoInner<Handle, u64, J, H>),
     Taken(Handle),
     Nothing,
@@ -35,8 +38,11 @@ pub(crate) fn why_of(fault: &IoFault) -> Why {
     match fault {
         Fault::Io(error) => match error.raw_os_error() {
             Some(number) => Why::System(number),
-            None if error.kind() == ErrorKind::UnexpectedEof => Why::Early,
-            None => Why::Input,
+            None => match error.kind() {
+                ErrorKind::UnexpectedEof => Why::Early,
+                ErrorKind::Unsupported => Why::Unsupported,
+                _ => Why::Input,
+            },
         },
         Fault::WriteZero => Why::WriteZero,
         Fault::Refused(why) => Why::Refused(*why),
@@ -152,6 +158,27 @@ fn polled<J: Carrier<H>, H: Runtime + Drop>(
     }
 }
 
+// The same of an owner that can't be closed.
+fn polled_open<J: Carrier<H>, H: Runtime + Drop>(
+    owner: &mut Opened<J, H>,
+    cx: &mut Context<'_>,
+    ask: &Ask,
+    room: &mut [u8],
+) -> Poll<Reply> {
+    match ask {
+        Ask::Flush => done(owner.poll_flush(cx)),
+        Ask::Close => done(owner.poll_close(cx)),
+        Ask::Read(_) => read_once(owner, cx, room),
+        Ask::Next => next_once(owner, cx),
+        Ask::Seek(to) => seek_once(owner, cx, *to),
+        Ask::Handle => match owner.poll_get_mut(cx) {
+            Poll::Pending => Poll::Pending,
+            Poll::Ready(handle) => Poll::Ready(Reply::Handle(handle.place())),
+        },
+        Ask::Write(_) | Ask::Operate(_) | Ask::Inner => Poll::Ready(Reply::Nothing),
+    }
+}
+
 fn write_if_open<J: Carrier<H>, H: Runtime + Drop>(
     owner: &mut Lent<J, H>,
     cx: &mut Context<'_>,
@@ -181,17 +208,18 @@ pub(crate) fn awaited<F: Future<Output: Drop> + Drop>(
     None
 }
 
-// Polls a future once, and drops it once that holds. Whether it waited, and that came to hold.
+// Polls a future once, if it is to be, and drops it once that holds. Whether it waited, and that came to hold.
 fn left<F: Future<Output: Drop> + Drop, M: Fn() -> bool>(
     mut future: F,
     task: &MockTask,
     patience: &Patience,
+    is_polled: bool,
     met: M,
 ) -> bool
     requires ready { F.can_poll future }
     requires callable { M.IsAlwaysCallable met }
 {
-    task.poll(&mut future).is_pending() && patience.until(met)
+    !is_polled || task.poll(&mut future).is_pending() && patience.until(met)
 }
 
 fn reads_exactly<A: AsyncRead>(
@@ -240,7 +268,61 @@ fn writes_all<A: AsyncWrite>(
     }
 }
 
+// What a future of an owner that can't be closed answers.
+fn finish_open<J: Carrier<H>, H: Runtime + Drop>(
+    owner: &mut Opened<J, H>,
+    task: &MockTask,
+    patience: &Patience,
+    lasting: &Lasting,
+    room: &mut [u8],
+    rest: &mut Vec<u8>,
+) -> Poll<Reply> {
+    match lasting {
+        Lasting::Exact(_) => reads_exactly(owner, task, patience, room),
+        Lasting::Rest => reads_rest(owner, task, patience, rest),
+        Lasting::Whole(bytes) => writes_all(owner, task, patience, bytes.as_slice()),
+        Lasting::Jump(_) | Lasting::Inner => Poll::Ready(Reply::Nothing),
+    }
+}
+
+// What an operation answers that is awaited.
+fn operates<J: Carrier<H>, H: Runtime + Drop>(
+    owner: &mut Lent<J, H>,
+    task: &MockTask,
+    patience: &Patience,
+    to: u64,
+) -> Poll<Reply> {
+    if owner.is_closed() {
+        return Poll::Ready(Reply::Nothing);
+    }
+    match awaited(owner.with_mut(Jump { to }), task, patience) {
+        None => Poll::Pending,
+        Some(came) => Poll::Ready(result_of(came)),
+    }
+}
+
 impl<J: Carrier<H>, H: Runtime + Drop> Lending<J, H> {
+    // Asks for the handle for good, and drops that future at a point.
+    fn leave_inner<F: Fn() -> bool>(
+        &mut self,
+        task: &MockTask,
+        patience: &Patience,
+        is_polled: bool,
+        met: F,
+    ) -> bool
+        requires { F.IsAlwaysCallable met }
+    {
+        match std::mem::replace(self, Lending::Nothing) {
+            Lending::Owner(owner) if !owner.is_closed() => {
+                left(owner.into_inner(), task, patience, is_polled, met)
+            }
+            other => {
+                *self = other;
+                false
+            }
+        }
+    }
+
     // Polls for the handle, for good.
     fn take_back(&mut self, task: &MockTask) -> Poll<Reply> {
         *self = match std::mem::replace(self, Lending::Nothing) {
@@ -268,6 +350,7 @@ impl<J: Carrier<H>, H: Runtime + Drop> Owner for Lending<J, H> {
     fn is_closed(&self) -> bool {
         match self {
             Lending::Owner(owner) => owner.is_closed(),
+            Lending::Open(_) => false,
             Lending::Taking(_) | Lending::Taken(_) | Lending::Nothing => true,
         }
     }
@@ -275,6 +358,7 @@ impl<J: Carrier<H>, H: Runtime + Drop> Owner for Lending<J, H> {
     fn is_idle(&mut self) -> bool {
         match self {
             Lending::Owner(owner) => owner.handle_mut().is_some(),
+            Lending::Open(owner) => owner.handle_mut().is_some(),
             Lending::Taking(_) | Lending::Taken(_) | Lending::Nothing => false,
         }
     }
@@ -290,18 +374,18 @@ impl<J: Carrier<H>, H: Runtime + Drop> Owner for Lending<J, H> {
         if let Ask::Inner = ask {
             return self.take_back(task);
         }
-        let Lending::Owner(owner) = self else {
-            return Poll::Ready(Reply::Nothing);
-        };
-        match ask {
-            Ask::Operate(to) => operate_once(owner, task, *to),
-            _ => task.enter(|cx| polled(owner, cx, ask, room)),
+        match (self, ask) {
+            (Lending::Owner(owner), Ask::Operate(to)) => operate_once(owner, task, *to),
+            (Lending::Owner(owner), _) => task.enter(|cx| polled(owner, cx, ask, room)),
+            (Lending::Open(owner), _) => task.enter(|cx| polled_open(owner, cx, ask, room)),
+            _ => Poll::Ready(Reply::Nothing),
         }
     }
 
     fn write(&mut self, task: &MockTask, bytes: &[u8]) -> Poll<Reply> {
         match self {
             Lending::Owner(owner) => task.enter(|cx| write_if_open(owner, cx, bytes)),
+            Lending::Open(owner) => task.enter(|cx| write_once(owner, cx, bytes)),
             Lending::Taking(_) | Lending::Taken(_) | Lending::Nothing => {
                 Poll::Ready(Reply::Nothing)
             }
@@ -312,22 +396,24 @@ impl<J: Carrier<H>, H: Runtime + Drop> Owner for Lending<J, H> {
         &mut self,
         task: &MockTask,
         patience: &Patience,
-        lasting: Lasting<'_>,
+        lasting: &Lasting,
+        room: &mut [u8],
+        rest: &mut Vec<u8>,
     ) -> Poll<Reply> {
-        let Lending::Owner(owner) = self else {
-            return Poll::Ready(Reply::Nothing);
+        let owner = match self {
+            Lending::Owner(owner) => owner,
+            Lending::Open(open) => return finish_open(open, task, patience, lasting, room, rest),
+            _ => return Poll::Ready(Reply::Nothing),
         };
         if owner.is_closed() {
             return Poll::Ready(Reply::Nothing);
         }
         match lasting {
-            Lasting::Exact(room) => reads_exactly(owner, task, patience, room),
-            Lasting::Rest(out) => reads_rest(owner, task, patience, out),
-            Lasting::Whole(bytes) => writes_all(owner, task, patience, bytes),
-            Lasting::Jump(to) => match awaited(owner.with_mut(Jump { to }), task, patience) {
-                None => Poll::Pending,
-                Some(came) => Poll::Ready(result_of(came)),
-            },
+            Lasting::Exact(_) => reads_exactly(owner, task, patience, room),
+            Lasting::Rest => reads_rest(owner, task, patience, rest),
+            Lasting::Whole(bytes) => writes_all(owner, task, patience, bytes.as_slice()),
+            Lasting::Jump(to) => operates(owner, task, patience, *to),
+            Lasting::Inner => Poll::Ready(Reply::Nothing),
         }
     }
 
@@ -335,9 +421,15 @@ impl<J: Carrier<H>, H: Runtime + Drop> Owner for Lending<J, H> {
         &mut self,
         task: &MockTask,
         patience: &Patience,
-        lasting: Lasting<'_>,
+        leaving: Leaving<'_>,
+        room: &mut [u8],
+        rest: &mut Vec<u8>,
         met: F,
     ) -> bool {
+        let Leaving { lasting, is_polled } = leaving;
+        if let Lasting::Inner = lasting {
+            return self.leave_inner(task, patience, is_polled, met);
+        }
         let Lending::Owner(owner) = self else {
             return false;
         };
@@ -345,17 +437,37 @@ impl<J: Carrier<H>, H: Runtime + Drop> Owner for Lending<J, H> {
             return false;
         }
         match lasting {
-            Lasting::Exact(room) => left(owner.read_exact(room), task, patience, met),
-            Lasting::Rest(out) => left(owner.read_to_end(out), task, patience, met),
-            Lasting::Whole(bytes) => left(owner.write_all(bytes), task, patience, met),
-            Lasting::Jump(to) => left(owner.with_mut(Jump { to }), task, patience, met),
+            Lasting::Exact(_) => left(owner.read_exact(room), task, patience, is_polled, met),
+            Lasting::Rest => left(owner.read_to_end(rest), task, patience, is_polled, met),
+            Lasting::Whole(bytes) => {
+                left(
+                    owner.write_all(bytes.as_slice()),
+                    task,
+                    patience,
+                    is_polled,
+                    met,
+                )
+            }
+            Lasting::Jump(to) => {
+                left(
+                    owner.with_mut(Jump { to: *to }),
+                    task,
+                    patience,
+                    is_polled,
+                    met,
+                )
+            }
+            Lasting::Inner => false,
         }
     }
 
     fn say(&self, text: &mut String) -> io::Result<()> {
-        if let Lending::Owner(owner) = self {
-            return Ok(write!(text, "{owner:?}")?);
+        match self {
+            Lending::Owner(owner) => Ok(write!(text, "{owner:?}")?),
+            Lending::Open(owner) => Ok(write!(text, "{owner:?}")?),
+            Lending::Taking(_) | Lending::Taken(_) | Lending::Nothing => {
+                Ok(text.push_str("taken")?)
+            }
         }
-        Ok(text.push_str("taken")?)
     }
 }

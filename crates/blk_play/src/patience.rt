@@ -6,6 +6,9 @@ use std::thread;
 /// How often is looked for what has to come, before it is said that it doesn't: for some seconds.
 const LOOKS: u64 = 20_000_000;
 
+/// How often something is polled that has to answer.
+pub(crate) const POLLS: u32 = 1_000;
+
 /// Whether the time of a whole run is over. Nothing is waited for from then on.
 #[derive(Drop)]
 pub(crate) struct Patience {

@@ -93,6 +93,8 @@ pub(crate) struct Plan {
     pub source: Source,
     /// How many bytes a call moves at most.
     pub by: usize,
+    /// How often each call lets other threads go first.
+    pub yields: u64,
     /// How many bytes or items are logged of what it gave, and of what it took.
     pub logged: usize,
     pub reads: Answers,
@@ -113,6 +115,7 @@ impl Plan {
         Plan {
             source,
             by: usize::MAX,
+            yields: 0,
             logged: 1024,
             reads: Answers::new(alloc),
             writes: Answers::new(alloc),

@@ -1,20 +1,18 @@
 //! Plays lines over a stage, and compares what is seen with what must be.
-use crate::apart::Apart;
 use crate::call::{CallPlan, CallTrack};
 use crate::called::{Called, Copied, Waiting};
 use crate::check::{Breach, Observer};
 use crate::desk::Desk;
-use crate::gates::Gates;
+use crate::gates::{GateNo, Gates};
 use crate::handle::Handle;
-use crate::line::{
-    Alone, Block, CopierLine, Counted, JobLine, Line, OwnerLine, Parties, TaskLine, plan_of,
-};
+use crate::line::{Alone, Counted, Line, Parties, plan_of};
 use crate::owned::Owned;
 use crate::patience::Patience;
 use crate::plan::Plan;
-use crate::script::Numbered;
-use crate::shown::{NOTHING, Shown};
-use crate::stage::{Gave, Owner, Reply, Stage, Standing, Why};
+use crate::rounds::Round;
+use crate::script::{Manner, Numbered};
+use crate::shown::{Many, NOTHING, Shown};
+use crate::stage::{Gave, Owner, Reply, Stage, Standing, Terms, Why};
 use crate::track::Track;
 use crate::waiter::{JobPlan, JobTrack, Waiter};
 use blocking_core::pool::Refusal;
@@ -27,8 +25,8 @@ use std::sync::Arc;
 /// How many tasks there are to poll by, beside each party's own.
 const WAKERS: usize = 8;
 
-/// How deep blocks may stand in each other.
-pub(crate) const DEPTH: u32 = 3;
+// How many parties of a kind there are at most.
+const MOST: usize = 100_000;
 
 /// What came of a line, or of several.
 #[derive(Clone, Copy, PartialEq, Eq)]
@@ -42,7 +40,7 @@ pub(crate) enum Flow {
 
 /// The parties of a script.
 #[derive(Drop)]
-struct Cast<S: Stage> {
+pub(crate) struct Cast<S: Stage> {
     plans: Vec<Option<Plan>>,
     owners: Vec<Owned<S::Owner>>,
     calls: Vec<Called<S::Task>>,
@@ -51,7 +49,7 @@ struct Cast<S: Stage> {
 }
 
 impl<S: Stage> Cast<S> {
-    fn new(alloc: Global) -> Cast<S> {
+    pub(crate) fn new(alloc: Global) -> Cast<S> {
         Cast {
             plans: Vec::new(alloc),
             owners: Vec::new(alloc),
@@ -71,17 +69,26 @@ struct Lent<O: Drop> {
     place: Option<usize>,
 }
 
+/// What a thread's lines showed, and the law that they broke.
+#[derive(Drop)]
+pub(crate) struct Apart {
+    pub text: String,
+    pub breach: Option<Breach>,
+}
+
 /// A player.
 #[derive(Drop)]
 pub(crate) struct Player<S: Stage> {
     pub stage: S,
     pub desk: Desk,
-    cast: Cast<S>,
-    // What lines of a block show; None where each line is written at once.
-    kept: Option<String>,
+    pub cast: Cast<S>,
+    /// What lines of a block show; None where each line is written at once.
+    pub kept: Option<String>,
+    /// The blocks around the line that is played, the outermost first.
+    pub rounds: Vec<Round<S>>,
+    /// Whether some tries were all too late.
+    pub is_too_slow: bool,
     clock: u64,
-    // Whether some tries were all too late.
-    is_too_slow: bool,
 }
 
 // A plan of these bytes where none was said.
@@ -115,6 +122,7 @@ impl<S: Stage> Player<S> {
             room: vec![in alloc; 0u8; room]?,
             whole: Vec::new(alloc),
             text: String::with_capacity(alloc, 256)?,
+            first: String::with_capacity(alloc, 256)?,
             wakers,
             breach: None,
         };
@@ -123,34 +131,47 @@ impl<S: Stage> Player<S> {
             desk,
             cast: Cast::new(alloc),
             kept: None,
-            clock: 0,
+            rounds: Vec::new(alloc),
             is_too_slow: false,
+            clock: 0,
         })
     }
 
-    fn handle(&mut self, number: usize, text: &str) -> io::Result<Shown> {
-        let Ok(plan) = plan_of(self.desk.alloc, text) else {
-            return Err(io::Error::from(io::ErrorKind::OutOfMemory));
-        };
-        if number > 100_000 {
+    // Plans the handles of owners that are made later.
+    fn plan(&mut self, handles: Parties, text: &str) -> io::Result<Shown> {
+        if handles.last > MOST {
             return Ok(NOTHING);
         }
-        while self.cast.plans.len() <= number {
-            self.cast.plans.push(None)?;
+        for number in handles.first..=handles.last {
+            let Ok(plan) = plan_of(self.desk.alloc, text) else {
+                return Err(io::Error::from(io::ErrorKind::OutOfMemory));
+            };
+            for _ in self.cast.plans.len()..=number {
+                self.cast.plans.push(None)?;
+            }
+            if let Some(place) = self.cast.plans.get_mut(number) {
+                *place = Some(plan);
+            }
         }
-        if let Some(place) = self.cast.plans.get_mut(number) {
-            *place = Some(plan);
-        }
-        Ok(Shown::Count("handle", number as u64))
+        Ok(Shown::Count("handle", handles.last as u64))
     }
 
-    fn make(&mut self, capacity: Option<usize>, client: Option<u32>) -> io::Result<Shown> {
+    // Makes so many owners one after another, and shows the last.
+    fn make_all(&mut self, terms: Terms, count: u64) -> io::Result<Shown> {
+        let mut shown = NOTHING;
+        for _ in 0..count.min(MOST as u64) {
+            shown = self.make(terms)?;
+        }
+        Ok(shown)
+    }
+
+    fn make(&mut self, terms: Terms) -> io::Result<Shown> {
         let (alloc, number) = (self.desk.alloc, self.cast.owners.len());
         let plan = plan_for(alloc, self.cast.plans.as_mut_slice(), number)?;
         let track = Arc::new(alloc, Track::new(alloc, plan.logged)?)?;
         let gates = Arc::try_clone(&self.desk.gates)?;
         let handle = Handle::new(plan, Arc::try_clone(&track)?, gates);
-        let owner = Some(self.stage.lend(handle, capacity, client)?);
+        let owner = Some(self.stage.lend(handle, terms)?);
         let observer = Observer::new(alloc, track)?;
         let waker = self.stage.waker()?;
         self.cast.owners.push(Owned {
@@ -159,6 +180,19 @@ impl<S: Stage> Player<S> {
             waker,
         })?;
         Ok(Shown::Count("made", number as u64))
+    }
+
+    // Makes a call, and so many more, each of which answers one more, and maybe for one client more.
+    fn call_all(&mut self, mut plan: CallPlan, more: u64, are_for_many: bool) -> io::Result<Shown> {
+        let mut shown = self.call(plan)?;
+        for _ in 0..more {
+            plan.answer = plan.answer.saturating_add(1);
+            if are_for_many {
+                plan.client = plan.client.saturating_add(1);
+            }
+            shown = self.call(plan)?;
+        }
+        Ok(shown)
     }
 
     fn call(&mut self, plan: CallPlan) -> io::Result<Shown> {
@@ -244,6 +278,7 @@ impl<S: Stage> Player<S> {
             match self.cast.calls.get_mut(place) {
                 Some(call) => match call.awaits(&self.desk) {
                     Some(Gave::Number(number)) => sum = sum.saturating_add(number),
+                    Some(Gave::Nothing) => {}
                     _ => return NOTHING,
                 },
                 None => return NOTHING,
@@ -305,9 +340,24 @@ impl<S: Stage> Player<S> {
     // What is done once.
     fn alone(&mut self, line: &Alone) -> io::Result<Shown> {
         Ok(match line {
-            Alone::Handle(number, text) => self.handle(*number, text.as_str())?,
-            Alone::New(capacity, client) => self.make(*capacity, *client)?,
-            Alone::Call(plan) => self.call(*plan)?,
+            Alone::Handle(handles, text) => self.plan(*handles, text.as_str())?,
+            Alone::New(capacity, client, count) => {
+                let terms = Terms {
+                    capacity: *capacity,
+                    client: *client,
+                    can_close: true,
+                };
+                self.make_all(terms, *count)?
+            }
+            Alone::Open(capacity, count) => {
+                let terms = Terms {
+                    capacity: *capacity,
+                    client: None,
+                    can_close: false,
+                };
+                self.make_all(terms, *count)?
+            }
+            Alone::Call(plan, more, are_for_many) => self.call_all(*plan, *more, *are_for_many)?,
             Alone::Add(plan) => self.add(*plan)?,
             Alone::Link(reader, writer, piece) => self.link(*reader, *writer, *piece)?,
             Alone::Sum(first, last) => self.sum(*first, *last),
@@ -315,18 +365,8 @@ impl<S: Stage> Player<S> {
                 self.desk.gates.set(*gate, *is_open);
                 Shown::Word(if *is_open { "open" } else { "shut" })
             }
-            Alone::Reached(gate, count) => {
-                let gates = &*self.desk.gates;
-                let _ = self.desk.patience.until(|| gates.reached(*gate) >= *count);
-                Shown::Count("reached", gates.reached(*gate).min(*count))
-            }
-            Alone::SoonWoken(waker) => match self.desk.wakers.get(*waker) {
-                Some(task) => {
-                    let is_woken = self.desk.patience.until(|| task.is_woken());
-                    Shown::Word(if is_woken { "woken" } else { "asleep" })
-                }
-                None => NOTHING,
-            },
+            Alone::Reached(gate, count) => reached(&self.desk, *gate, *count),
+            Alone::SoonWoken(waker) => soon_woken(&self.desk, *waker),
             _ => self.of_pool(line)?,
         })
     }
@@ -359,11 +399,17 @@ impl<S: Stage> Player<S> {
                 self.clock = self.stage.millis();
                 Shown::Word("clock")
             }
-            Alone::Within(millis) => Shown::Word(if self.passed() < *millis {
-                "in time"
-            } else {
-                "late"
-            }),
+            Alone::Within(millis) => {
+                let is_late = self.passed() >= *millis;
+                Shown::Word(if is_late { "late" } else { "in time" })
+            }
+            Alone::Passed(millis) => {
+                let is_early = self.passed() < *millis;
+                Shown::Word(if is_early { "early" } else { "passed" })
+            }
+            Alone::Inside(client) => {
+                Shown::Number(self.stage.most_inside(*client) as u64, "inside")
+            }
             Alone::Mark(mark) => Shown::Word(mark),
             _ => NOTHING,
         })
@@ -394,11 +440,11 @@ impl<S: Stage> Player<S> {
         })
     }
 
-    // What a line shows that is tried again where it is refused. Each refusal is told.
+    // What a line shows for one party. Where it is tried again, each refusal is told.
     fn tried(&mut self, numbered: &Numbered, place: usize) -> io::Result<Shown> {
         for _ in 0..10_000u32 {
             let shown = self.shows(&numbered.line, place)?;
-            if !numbered.is_tried || !is_refused(shown) {
+            if numbered.manner != Manner::Tried || !is_refused(shown) {
                 return Ok(shown);
             }
             self.say(shown)?;
@@ -406,46 +452,62 @@ impl<S: Stage> Player<S> {
         Ok(NOTHING)
     }
 
-    // Writes what a line shows.
-    fn say(&mut self, shown: Shown) -> io::Result<()> {
+    /// Writes what a line shows.
+    pub(crate) fn say(&mut self, shown: Shown) -> io::Result<()> {
+        self.say_many(1, shown)
+    }
+
+    // Writes what a line shows for each of so many parties.
+    fn say_many(&mut self, count: u64, shown: Shown) -> io::Result<()> {
         let text = self.desk.text.as_str();
         match (&mut self.kept, shown) {
-            (Some(kept), Shown::Text) => Ok(writeln!(kept, "{text}")?),
-            (Some(kept), shown) => Ok(writeln!(kept, "{shown}")?),
-            (None, Shown::Text) => self.stage.say(text),
-            (None, shown) => self.stage.say(shown),
+            (Some(kept), Shown::Text) => {
+                let shown = text;
+                let many = Many { count, shown };
+                Ok(writeln!(kept, "{many}")?)
+            }
+            (Some(kept), shown) => {
+                let many = Many { count, shown };
+                Ok(writeln!(kept, "{many}")?)
+            }
+            (None, Shown::Text) => self.stage.say(Many { count, shown: text }),
+            (None, shown) => self.stage.say(Many { count, shown }),
         }
     }
 
-    fn say_word(&mut self, word: &'static str) -> io::Result<()> {
-        self.say(Shown::Word(word))
+    // Whether a line shows the same for each of these parties as it did for the first.
+    fn is_same_for(
+        &mut self,
+        numbered: &Numbered,
+        parties: Parties,
+        first: Shown,
+    ) -> io::Result<bool> {
+        self.desk.first.clear();
+        self.desk.first.push_str(self.desk.text.as_str())?;
+        let mut is_same = true;
+        for place in parties.first.saturating_add(1)..=parties.last {
+            let shown = self.tried(numbered, place)?;
+            let is_text_same = self.desk.first.as_str() == self.desk.text.as_str();
+            is_same = is_same && shown == first && (shown != Shown::Text || is_text_same);
+        }
+        Ok(is_same)
     }
 
     // Plays a line for each of its parties, and writes what that shows.
     fn play_each(&mut self, numbered: &Numbered, parties: Parties) -> io::Result<Shown> {
         let first = self.tried(numbered, parties.first)?;
-        if parties.first == parties.last {
-            self.say(first)?;
-            return Ok(first);
-        }
-        let mut is_mixed = false;
-        for place in parties.first.saturating_add(1)..=parties.last {
-            is_mixed = is_mixed || self.tried(numbered, place)? != first;
-        }
-        if is_mixed {
-            self.say_word("mixed")?;
-            return Ok(Shown::Word("mixed"));
-        }
+        let is_same = parties.first == parties.last || self.is_same_for(numbered, parties, first)?;
         let count = (parties.last.saturating_sub(parties.first) as u64).saturating_add(1);
-        match &mut self.kept {
-            Some(kept) => write!(kept, "{count} ")?,
-            None => {}
+        match (numbered.manner, is_same) {
+            (Manner::Quiet, _) => self.say(Shown::Word("quietly"))?,
+            (_, true) => self.say_many(count, first)?,
+            (_, false) => self.say(Shown::Word("mixed"))?,
         }
-        self.say(first)?;
         Ok(first)
     }
 
-    fn play_line(&mut self, numbered: &Numbered) -> io::Result<Flow> {
+    /// Plays a line that is no block's.
+    pub(crate) fn play_line(&mut self, numbered: &Numbered) -> io::Result<Flow> {
         let parties = match &numbered.line {
             Line::Owner(parties, _)
             | Line::Task(parties, _)
@@ -479,8 +541,8 @@ impl<S: Stage> Player<S> {
         }
     }
 
-    // Whether a law is broken, or the time is over.
-    fn is_broken(&mut self) -> bool {
+    /// Whether a law is broken, or the time is over.
+    pub(crate) fn is_broken(&mut self) -> bool {
         self.compare();
         self.desk.breach.is_some() || self.desk.patience.is_over()
     }
@@ -500,115 +562,6 @@ impl<S: Stage> Player<S> {
         }
     }
 
-    /// Plays lines in which no thread begins.
-    pub(crate) fn play(&mut self, lines: &[Numbered], depth: u32) -> io::Result<Flow> {
-        let mut skipped = 0usize;
-        for (place, numbered) in lines.iter().enumerate() {
-            if skipped > 0 {
-                skipped -= 1;
-                continue;
-            }
-            let flow = match &numbered.line {
-                Line::Begin(block, length) => {
-                    skipped = *length;
-                    let end = place.saturating_add(*length);
-                    let inner = lines.get(place.saturating_add(1)..end).unwrap_or(&[]);
-                    match depth.checked_sub(1) {
-                        Some(left) => self.play_block(*block, inner, left)?,
-                        None => Flow::Stops,
-                    }
-                }
-                _ => self.play_line(numbered)?,
-            };
-            if flow != Flow::GoesOn {
-                return Ok(flow);
-            }
-        }
-        Ok(Flow::GoesOn)
-    }
-
-    // Plays a block with parties of its own for each round, and writes what the last showed.
-    fn play_block(&mut self, block: Block, lines: &[Numbered], depth: u32) -> io::Result<Flow> {
-        let alloc = self.desk.alloc;
-        let outer = std::mem::replace(&mut self.kept, Some(String::new(alloc)));
-        let flow = match block {
-            Block::Tries(most) => self.play_tries(most, lines, depth)?,
-            Block::Repeat(rounds, late) => self.play_rounds(rounds, late, lines, depth)?,
-            Block::Thread => Flow::Stops,
-        };
-        let shown = std::mem::replace(&mut self.kept, outer);
-        if let Some(text) = shown {
-            for line in text.as_str().lines() {
-                self.say_text(line)?;
-            }
-        }
-        Ok(flow)
-    }
-
-    fn say_text(&mut self, line: &str) -> io::Result<()> {
-        match &mut self.kept {
-            Some(kept) => Ok(writeln!(kept, "{line}")?),
-            None => self.stage.say(line),
-        }
-    }
-
-    // One round: with fresh parties, which are gone behind it.
-    fn play_round(&mut self, lines: &[Numbered], depth: u32) -> io::Result<Flow> {
-        if let Some(kept) = &mut self.kept {
-            kept.clear();
-        }
-        let cast = Cast::new(self.desk.alloc);
-        let outer = std::mem::replace(&mut self.cast, cast);
-        let flow = self.play(lines, depth)?;
-        self.finish()?;
-        self.cast = outer;
-        Ok(if self.is_broken() { Flow::Stops } else { flow })
-    }
-
-    fn play_tries(&mut self, most: u64, lines: &[Numbered], depth: u32) -> io::Result<Flow> {
-        for _ in 0..most {
-            match self.play_round(lines, depth)? {
-                Flow::Late => {}
-                flow => return Ok(flow),
-            }
-        }
-        self.is_too_slow = true;
-        self.say_word("too slow")?;
-        Ok(Flow::Stops)
-    }
-
-    fn play_rounds(
-        &mut self,
-        rounds: u64,
-        late: Option<(u64, u64)>,
-        lines: &[Numbered],
-        depth: u32,
-    ) -> io::Result<Flow> {
-        let mut too_late = 0u64;
-        for _ in 0..rounds {
-            let start = self.stage.millis();
-            let flow = self.play_round(lines, depth)?;
-            if flow != Flow::GoesOn {
-                return Ok(flow);
-            }
-            if let Some((millis, _)) = late
-                && self.stage.millis().saturating_sub(start) >= millis
-            {
-                too_late = too_late.saturating_add(1);
-            }
-        }
-        match late {
-            Some((_, most)) if too_late > most => {
-                self.say(Shown::Number(too_late, "rounds late"))?;
-                Ok(Flow::Late)
-            }
-            _ => {
-                self.say(Shown::Number(rounds, "rounds"))?;
-                Ok(Flow::GoesOn)
-            }
-        }
-    }
-
     /// From now on what lines show is kept, as those of a thread.
     pub(crate) fn keep(&mut self) {
         self.kept = Some(String::new(self.desk.alloc));
@@ -621,8 +574,9 @@ impl<S: Stage> Player<S> {
             desk,
             cast: _,
             kept,
-            clock: _,
+            rounds: _,
             is_too_slow: _,
+            clock: _,
         } = self;
         Apart {
             text: match kept {
@@ -694,6 +648,21 @@ impl<S: Stage> Player<S> {
             Flow::Stops | Flow::Late => 5,
             Flow::GoesOn => 0,
         })
+    }
+}
+
+// How many came to a gate, of so many that are to come before long.
+fn reached(desk: &Desk, gate: GateNo, count: u64) -> Shown {
+    let gates = &*desk.gates;
+    let _ = desk.patience.until(|| gates.reached(gate) >= count);
+    Shown::Count("reached", gates.reached(gate).min(count))
+}
+
+fn soon_woken(desk: &Desk, waker: usize) -> Shown {
+    match desk.wakers.get(waker) {
+        Some(task) if desk.patience.until(|| task.is_woken()) => Shown::Word("woken"),
+        Some(_) => Shown::Word("asleep"),
+        None => NOTHING,
     }
 }
 

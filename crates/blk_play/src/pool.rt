@@ -1,10 +1,10 @@
 //! The pool that a script is played on, and what it needs of the system.
 use crate::call::{CallPlan, CallTrack, Inside, Scripted};
-use crate::copying::{Linked, Opened};
+use crate::copying::Linked;
 use crate::gates::Gates;
 use crate::handle::Handle;
-use crate::owner::Lending;
-use crate::stage::{Stage, Standing};
+use crate::owner::{Lending, Opened};
+use crate::stage::{Stage, Standing, Terms};
 use crate::tasks::Awaited;
 use crate::threads::{count_workers, used_nanos};
 use crate::waiter::Waiter;
@@ -20,7 +20,6 @@ use std::alloc::Global;
 use std::fmt::Display;
 use std::fs::Files;
 use std::sync::Arc;
-use std::sync::atomic::Ordering;
 use std::time::{Duration, Instant};
 use std::{io, thread};
 
@@ -35,8 +34,7 @@ impl<H: Host + Print + Files + Drop> System for H {}
 /// The counts of the calls that are inside.
 #[derive(Drop)]
 pub(crate) struct AllInside {
-    all: Arc<Inside>,
-    // By client.
+    // By client. (Of client 0 and of those beyond nobody counts.)
     each: Vec<Arc<Inside>>,
 }
 
@@ -46,10 +44,7 @@ impl AllInside {
         for _ in 0..CLIENTS {
             each.push(Arc::new(alloc, Inside::new())?)?;
         }
-        Ok(AllInside {
-            all: Arc::new(alloc, Inside::new())?,
-            each,
-        })
+        Ok(AllInside { each })
     }
 
     fn of(&self, client: u32) -> io::Result<Option<Arc<Inside>>> {
@@ -61,15 +56,12 @@ impl AllInside {
 
     fn limit_each(&self, most: usize) {
         for inside in self.each.iter() {
-            inside.most.store(most, Ordering::SeqCst);
+            inside.allow(most);
         }
     }
 
     fn too_many(&self) -> usize {
-        let all = self.all.too_many.load(Ordering::SeqCst);
-        self.each.iter().fold(all, |sum, inside| {
-            sum.saturating_add(inside.too_many.load(Ordering::SeqCst))
-        })
+        self.each.iter().fold(0usize, |sum, inside| sum.saturating_add(inside.too_many()))
     }
 }
 
@@ -98,6 +90,15 @@ impl<J: Job, H: Runtime> Pool<J, H> {
             inside,
             start,
         })
+    }
+}
+
+// An owner as one that can't be closed, unless it is.
+fn opened<J: Job, H: Runtime>(lending: Lending<J, H>) -> Option<Opened<J, H>> {
+    match lending {
+        Lending::Owner(owner) => Open::from_owner(owner).ok(),
+        Lending::Open(owner) => Some(owner),
+        Lending::Taking(_) | Lending::Taken(_) | Lending::Nothing => None,
     }
 }
 
@@ -139,21 +140,23 @@ impl<J: Carrier<H>, H: System> Stage for Pool<J, H> {
         count_workers(&self.rt, number)
     }
 
-    fn lend(
-        &self,
-        handle: Handle,
-        capacity: Option<usize>,
-        client: Option<u32>,
-    ) -> io::Result<Lending<J, H>> {
+    fn lend(&self, handle: Handle, terms: Terms) -> io::Result<Lending<J, H>> {
         let executor = self.executor.try_clone()?;
-        let executor = match client {
+        let executor = match terms.client {
             Some(client) => executor.for_client(client),
             None => executor,
         };
-        Ok(Lending::Owner(match capacity {
+        let owner = match terms.capacity {
             Some(capacity) if capacity > 0 => Unblock::with_capacity(capacity, executor, handle),
             _ => Unblock::new(executor, handle),
-        }))
+        };
+        if terms.can_close {
+            return Ok(Lending::Owner(owner));
+        }
+        Ok(match Open::from_owner(owner) {
+            Ok(open) => Lending::Open(open),
+            Err(owner) => Lending::Owner(owner),
+        })
     }
 
     fn call(
@@ -162,9 +165,8 @@ impl<J: Carrier<H>, H: System> Stage for Pool<J, H> {
         track: Arc<CallTrack>,
     ) -> io::Result<Result<Awaited<H>, Refusal>> {
         let gates = Arc::try_clone(&self.gates)?;
-        let all = Arc::try_clone(&self.inside.all)?;
         let inside = self.inside.of(plan.client)?;
-        let call = Scripted::new(self.rt, plan, track, gates, all, inside);
+        let call = Scripted::new(self.rt, plan, track, gates, inside);
         Ok(match unblock_for(&self.executor, plan.client, call) {
             Ok(task) => Ok(Awaited::Task(task)),
             Err(Refused { back: _, why }) => Err(why),
@@ -190,7 +192,6 @@ impl<J: Carrier<H>, H: System> Stage for Pool<J, H> {
         if limit == 0 {
             return false;
         }
-        self.inside.all.most.fetch_max(limit, Ordering::SeqCst);
         set_max_blocking_threads(&self.executor, limit);
         true
     }
@@ -199,9 +200,8 @@ impl<J: Carrier<H>, H: System> Stage for Pool<J, H> {
         if let Some(0) = limit {
             return false;
         }
-        if let None = limit {
-            self.inside.limit_each(usize::MAX);
-        }
+        let most = limit.unwrap_or(usize::MAX);
+        self.inside.limit_each(most);
         set_client_limit(&self.executor, limit);
         true
     }
@@ -221,16 +221,21 @@ impl<J: Carrier<H>, H: System> Stage for Pool<J, H> {
         self.inside.too_many()
     }
 
+    fn most_inside(&self, client: u32) -> usize {
+        let client = usize::try_from(client).unwrap_or(usize::MAX);
+        self.inside
+            .each
+            .get(client)
+            .map_or(0, |inside| inside.seen())
+    }
+
     fn link(
         &self,
         reader: Lending<J, H>,
         writer: Lending<J, H>,
         piece: usize,
     ) -> io::Result<Option<Linked<J, H>>> {
-        let (Lending::Owner(reader), Lending::Owner(writer)) = (reader, writer) else {
-            return Ok(None);
-        };
-        let (Ok(reader), Ok(writer)) = (Open::from_owner(reader), Open::from_owner(writer)) else {
+        let (Some(reader), Some(writer)) = (opened(reader), opened(writer)) else {
             return Ok(None);
         };
         if piece == 0 {

@@ -1,15 +1,23 @@
 //! Scripts: the text of the pool's setting, and the lines.
-use crate::line::{Block, Line, line_of, room_of};
+use crate::line::{Line, line_of, room_of};
 use crate::words::LineFault;
-use std::alloc::{AllocError, Global};
+use std::alloc::Global;
 
-/// A line, with whether it is tried again where it is refused.
+/// How a line is played.
+#[derive(Clone, Copy, PartialEq, Eq)]
+pub(crate) enum Manner {
+    Once,
+    /// Again and again where it is refused.
+    Tried,
+    /// What it shows isn't told.
+    Quiet,
+}
+
+/// A line, and how it is played.
 #[derive(Drop)]
 pub(crate) struct Numbered {
     pub line: Line,
-    pub is_tried: bool,
-    /// How many parties it names, if several.
-    pub text: String,
+    pub manner: Manner,
 }
 
 /// A script.
@@ -31,16 +39,23 @@ fn bad(number: usize, fault: LineFault) -> BadLine {
     }
 }
 
+// How a line is played, and what is left of it.
+fn manner_of(text: &str) -> (Manner, &str) {
+    if let Some(rest) = text.strip_prefix("try ") {
+        return (Manner::Tried, rest);
+    }
+    match text.strip_prefix("quietly ") {
+        Some(rest) => (Manner::Quiet, rest),
+        None => (Manner::Once, text),
+    }
+}
+
 // Reads one line that isn't empty.
 fn read_numbered(alloc: Global, text: &str) -> Result<Numbered, LineFault> {
-    let (is_tried, text) = match text.strip_prefix("try ") {
-        Some(rest) => (true, rest),
-        None => (false, text),
-    };
+    let (manner, text) = manner_of(text);
     Ok(Numbered {
         line: line_of(alloc, text)?,
-        is_tried,
-        text: String::from_str(alloc, text)?,
+        manner,
     })
 }
 

@@ -56,6 +56,7 @@ impl fmt::Display for Why {
         match *self {
             Why::System(number) => write!(f, "fault io {number}"),
             Why::Input => f.write_str("fault io input"),
+            Why::Unsupported => f.write_str("fault io unsupported"),
             Why::Early => f.write_str("fault io early end"),
             Why::WriteZero => f.write_str("fault write-zero"),
             Why::Refused(why) => write!(f, "fault refused {}", refusal_word(why)),
@@ -138,6 +139,23 @@ impl fmt::Display for Shown {
             Shown::Refused(why) => write!(f, "refused {}", refusal_word(why)),
             Shown::Text => Ok(()),
         }
+    }
+}
+
+/// What lines for so many parties all show.
+#[derive(Drop)]
+pub(crate) struct Many<T: Drop> {
+    pub count: u64,
+    pub shown: T,
+}
+
+impl<T: fmt::Display + Drop> fmt::Display for Many<T> {
+    fn fmt<W: fmt::Write>(&self, f: &mut fmt::Formatter<W>) -> fmt::Result {
+        let Many { count, shown } = self;
+        if *count > 1 {
+            write!(f, "{count} ")?;
+        }
+        write!(f, "{shown}")
     }
 }
 

@@ -38,6 +38,7 @@ pub(crate) enum Why {
     System(i32),
     /// An error that the handle has by itself.
     Input,
+    Unsupported,
     WriteZero,
     /// The end came before a read was whole.
     Early,
@@ -67,15 +68,25 @@ pub(crate) enum Reply {
 
 /// A future that lasts several polls, and borrows its owner.
 #[derive(Drop)]
-pub(crate) enum Lasting<'a> {
+pub(crate) enum Lasting {
     /// Fills the buffer.
-    Exact(&'a mut [u8]),
+    Exact(usize),
     /// Reads to the end, behind what is there.
-    Rest(&'a mut Vec<u8>),
+    Rest,
     /// Writes all.
-    Whole(&'a [u8]),
+    Whole(Vec<u8>),
     /// An operation that jumps there.
     Jump(u64),
+    /// The handle for good, which takes the owner.
+    Inner,
+}
+
+/// A future that is dropped.
+#[derive(Clone, Copy)]
+pub(crate) struct Leaving<'a> {
+    pub lasting: &'a Lasting,
+    /// Whether it is polled before.
+    pub is_polled: bool,
 }
 
 /// The owner of a scripted handle.
@@ -94,15 +105,24 @@ pub(crate) trait Owner: Drop {
     /// What one poll shows that is to take these bytes.
     fn write(&mut self, task: &MockTask, bytes: &[u8]) -> Poll<Reply>;
 
-    /// What a future answers that is polled until it does; Pending where that doesn't come.
-    fn finish(&mut self, task: &MockTask, patience: &Patience, lasting: Lasting<'_>) -> Poll<Reply>;
+    /// What a future answers that is polled until it does; Pending where that doesn't come. It reads into the one buffer or the other.
+    fn finish(
+        &mut self,
+        task: &MockTask,
+        patience: &Patience,
+        lasting: &Lasting,
+        room: &mut [u8],
+        rest: &mut Vec<u8>,
+    ) -> Poll<Reply>;
 
-    /// Polls a future once, waits until that holds, and drops it. Says whether it waited, and that came to hold.
+    /// Makes a future, polls it once if it is to be, waits until that holds, and drops it. Says whether it waited, and that came to hold.
     fn leave<F: Fn() -> bool>(
         &mut self,
         task: &MockTask,
         patience: &Patience,
-        lasting: Lasting<'_>,
+        leaving: Leaving<'_>,
+        room: &mut [u8],
+        rest: &mut Vec<u8>,
         met: F,
     ) -> bool
         requires { F.IsAlwaysCallable met };
@@ -164,6 +184,15 @@ pub(crate) struct Standing {
     pub queued: usize,
 }
 
+/// How a handle is lent.
+#[derive(Clone, Copy)]
+pub(crate) struct Terms {
+    /// How much a pipe holds; the default where none is said.
+    pub capacity: Option<usize>,
+    pub client: Option<u32>,
+    pub can_close: bool,
+}
+
 /// A pool, and what else of the system a script needs.
 pub(crate) trait Stage: Drop {
     type Owner: Owner;
@@ -191,13 +220,7 @@ pub(crate) trait Stage: Drop {
     /// How many threads have a worker's name, and whether one bears this number.
     fn workers(&self, number: u64) -> io::Result<(usize, bool)>;
 
-    /// An owner whose pipes hold so much; the default where none is said.
-    fn lend(
-        &self,
-        handle: Handle,
-        capacity: Option<usize>,
-        client: Option<u32>,
-    ) -> io::Result<Self::Owner>;
+    fn lend(&self, handle: Handle, terms: Terms) -> io::Result<Self::Owner>;
 
     fn call(
         &self,
@@ -221,6 +244,9 @@ pub(crate) trait Stage: Drop {
 
     /// How many calls too many were inside at once, of all and of one client.
     fn too_many(&self) -> usize;
+
+    /// How many calls of a client were inside at once, at most.
+    fn most_inside(&self, client: u32) -> usize;
 
     /// A copier that reads at most so many bytes at once; None where an owner is closed, or there are to be none.
     fn link(

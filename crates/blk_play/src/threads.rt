@@ -32,9 +32,9 @@ fn worker_of(name: &str) -> Option<u64> {
 pub(crate) fn count_workers<R: Looks>(rt: &R, number: u64) -> io::Result<(usize, bool)> {
     let (mut count, mut is_there) = (0usize, false);
     for name in told(rt, "comm")?.iter() {
-        if let Some(worker) = worker_of(name.as_str()) {
+        if name.as_str().starts_with(WORKER) {
             count = count.saturating_add(1);
-            is_there = is_there || worker == number;
+            is_there = is_there || worker_of(name.as_str()) == Some(number);
         }
     }
     Ok((count, is_there))

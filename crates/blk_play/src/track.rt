@@ -22,13 +22,23 @@ impl Log {
         })
     }
 
-    /// Adds one. (One thread at a time has the handle; a count is seen once its number is there.)
-    pub(crate) fn add(&self, number: u64) {
-        let place = self.len();
+    /// Puts a number at a place behind all, if there is room. (One thread at a time has the handle.)
+    pub(crate) fn put(&self, place: usize, number: u64) {
         if let Some(slot) = self.room.get(place) {
             slot.store(low(number), Ordering::SeqCst);
         }
-        self.count.store(place.saturating_add(1), Ordering::SeqCst);
+    }
+
+    /// Shows the numbers up to a place.
+    pub(crate) fn show(&self, count: usize) {
+        self.count.store(count, Ordering::SeqCst);
+    }
+
+    /// Adds one.
+    pub(crate) fn add(&self, number: u64) {
+        let place = self.len();
+        self.put(place, number);
+        self.show(place.saturating_add(1));
     }
 
     pub(crate) fn len(&self) -> usize {
