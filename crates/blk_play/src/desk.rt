@@ -18,8 +18,6 @@ pub(crate) struct Desk {
     pub whole: Vec<u8>,
     /// What a line shows that is longer than a word.
     pub text: String,
-    /// The same of the first of several parties.
-    pub first: String,
     /// Further tasks to poll by.
     pub wakers: Vec<MockTask>,
     /// The first law that was broken.
@@ -27,6 +25,14 @@ pub(crate) struct Desk {
 }
 
 impl Desk {
+    /// What a future read: behind a place in what grows, or into the room.
+    pub(crate) fn came(&self, is_rest: bool, start: usize) -> &[u8] {
+        if is_rest {
+            return self.whole.get(start..).unwrap_or(&[]);
+        }
+        self.room.as_slice()
+    }
+
     /// Notes that a law was broken, if one was.
     pub(crate) fn note(&mut self, breach: Option<Breach>) {
         if self.breach.is_none() {

@@ -1,7 +1,7 @@
 //! What a line of a script says.
 use crate::call::CallPlan;
 use crate::gates::{GateNo, gate_of};
-use crate::plan::{Answer, Answers, Kind, Plan, Planned, Source};
+use crate::plan::{ALL, Answer, Answers, Kind, Plan, Planned, Source, place_of};
 use crate::stage::{Ask, Lasting};
 use crate::waiter::JobPlan;
 use crate::words::{LineFault, Words};
@@ -209,6 +209,11 @@ fn read_future(alloc: Global, words: &mut Words<'_>) -> Read<Lasting> {
         "whole" => Lasting::Whole(words.bytes(alloc)?),
         "op" => Lasting::Jump(words.number()?),
         "inner" => Lasting::Inner,
+        "read" => Lasting::Read(words.count()?),
+        "write" => Lasting::Write(words.bytes(alloc)?),
+        "flush" => Lasting::Flush,
+        "close" => Lasting::Close,
+        "seek" => Lasting::Seek(words.position()?),
         _ => return Err(LineFault::NotALine),
     })
 }
@@ -650,28 +655,39 @@ fn read_answers(alloc: Global, words: &mut Words<'_>, into: &mut Answers) -> Rea
     Ok(())
 }
 
+// The place of the answers that this word begins.
+fn answers_of(name: &str) -> Option<usize> {
+    Some(place_of(match name {
+        "reads" => Kind::Read,
+        "writes" => Kind::Write,
+        "flushes" => Kind::Flush,
+        "items" => Kind::Item,
+        "seeks" => Kind::Seek,
+        "ops" => Kind::Operate,
+        "all" => return Some(ALL),
+        _ => return None,
+    }))
+}
+
 /// The plan that a text says: what a handle has, and then what it answers.
 pub(crate) fn plan_of(alloc: Global, text: &str) -> Read<Plan> {
     let mut words = Words::new(text);
     if !words.takes("of") {
         return Err(LineFault::NotALine);
     }
-    let mut plan = Plan::new(alloc, read_source(alloc, &mut words)?);
+    let mut plan = Plan::new(alloc, read_source(alloc, &mut words)?)?;
     while let Some(name) = words.peek() {
         words.word()?;
         match name {
             "by" => plan.by = words.count()?,
             "yields" => plan.yields = words.number()?,
             "logs" => plan.logged = words.count()?,
-            "reads" => read_answers(alloc, &mut words, &mut plan.reads)?,
-            "writes" => read_answers(alloc, &mut words, &mut plan.writes)?,
-            "flushes" => read_answers(alloc, &mut words, &mut plan.flushes)?,
-            "items" => read_answers(alloc, &mut words, &mut plan.items)?,
-            "seeks" => read_answers(alloc, &mut words, &mut plan.seeks)?,
-            "ops" => read_answers(alloc, &mut words, &mut plan.operations)?,
-            "all" => read_answers(alloc, &mut words, &mut plan.all)?,
             "drop" => plan.dropping = words.stop()?,
-            _ => return Err(LineFault::NotALine),
+            _ => {
+                let place = answers_of(name).ok_or(LineFault::NotALine)?;
+                let into = plan.lists.get_mut(place).ok_or(LineFault::NotALine)?;
+                read_answers(alloc, &mut words, into)?;
+            }
         }
     }
     words.end()?;
@@ -688,7 +704,7 @@ pub(crate) fn room_of(line: &Line) -> usize {
         | OwnerLine::Await(Ask::Read(count))
         | OwnerLine::Fill(count, _)
         | OwnerLine::All(Some(count))
-        | OwnerLine::Finish(Lasting::Exact(count))
+        | OwnerLine::Finish(Lasting::Exact(count) | Lasting::Read(count))
         | OwnerLine::Leave(Lasting::Exact(count), _) => *count,
         _ => 0,
     }

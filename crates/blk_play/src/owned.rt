@@ -1,5 +1,5 @@
 //! An owner as a script has it, and what its lines show.
-use crate::check::{Observer, Session, session_of};
+use crate::check::{Breach, Observer, Session, session_of};
 use crate::desk::Desk;
 use crate::line::{OwnerLine, Point};
 use crate::patience::POLLS;
@@ -42,8 +42,8 @@ fn answered(came: Poll<Reply>, room: &[u8]) -> Shown {
 // The session that a future is of.
 fn session_in(future: &Lasting) -> Session {
     match future {
-        Lasting::Exact(_) | Lasting::Rest => Session::Reads,
-        Lasting::Whole(_) | Lasting::Jump(_) | Lasting::Inner => Session::Other,
+        Lasting::Exact(_) | Lasting::Rest | Lasting::Read(_) => Session::Reads,
+        _ => Session::Other,
     }
 }
 
@@ -246,46 +246,65 @@ impl<O: Owner> Owned<O> {
             };
             owner.finish(&self.waker, &desk.patience, future, room, &mut desk.whole)
         };
-        let reply = match came {
-            Poll::Ready(reply) => Some(reply),
-            Poll::Pending => None,
+        let Poll::Ready(reply) = came else {
+            self.observer.is_left();
+            return Ok(Shown::Word("no answer"));
         };
-        self.compares(future, reply, start, desk);
+        let came = desk.came(matches!(future, Lasting::Rest), start);
+        let breach = self.compares(future, reply, came);
+        let shown = match reply {
+            Reply::Read(count) => bytes_read(came, count),
+            Reply::Nothing => NOTHING,
+            _ => Shown::Reply(reply),
+        };
+        desk.note(breach);
         match (future, reply) {
-            (Lasting::Rest, Some(Reply::Failed(why))) => {
+            (Lasting::Rest, Reply::Failed(why)) => {
                 behind(why, desk, start)?;
                 Ok(Shown::Text)
             }
-            (Lasting::Rest, Some(Reply::Read(count))) => {
-                Ok(bytes_read(desk.whole.get(start..).unwrap_or(&[]), count))
-            }
-            (_, Some(Reply::Read(count))) => Ok(bytes_read(desk.room.as_slice(), count)),
-            (_, Some(Reply::Nothing)) => Ok(NOTHING),
-            (_, Some(reply)) => Ok(Shown::Reply(reply)),
-            (_, None) => Ok(Shown::Word("no answer")),
+            _ => Ok(shown),
         }
     }
 
-    // Compares what a future did.
-    fn compares(&mut self, future: &Lasting, reply: Option<Reply>, start: usize, desk: &mut Desk) {
-        let breach = match (future, reply) {
-            (Lasting::Exact(count), Some(Reply::Read(_))) => {
-                self.observer.got(desk.room.get(..*count).unwrap_or(&[]))
+    // Compares what a future did that read these bytes, if it read any.
+    fn compares(&mut self, future: &Lasting, reply: Reply, came: &[u8]) -> Option<Breach> {
+        match (future, reply) {
+            (Lasting::Exact(count), Reply::Read(_)) => {
+                self.observer.got(came.get(..*count).unwrap_or(&[]))
             }
-            (Lasting::Rest, Some(Reply::Read(_))) => {
-                self.observer.got(desk.whole.get(start..).unwrap_or(&[]))
+            (Lasting::Rest, Reply::Read(_)) => self.observer.got(came),
+            (Lasting::Read(count), _) => {
+                let ask = Ask::Read(*count);
+                self.observer.answered(&ask, reply, came)
             }
-            (Lasting::Whole(bytes), Some(Reply::Done)) => {
+            (Lasting::Whole(bytes), Reply::Done) => {
                 self.observer.wrote(bytes.as_slice());
                 None
             }
-            (Lasting::Jump(_), _) => None,
+            (Lasting::Write(bytes), _) => self.is_written(bytes.as_slice(), reply),
+            (Lasting::Flush, _) => self.observer.answered(&Ask::Flush, reply, came),
+            (Lasting::Close, _) => self.observer.answered(&Ask::Close, reply, came),
+            (Lasting::Jump(_) | Lasting::Seek(_), _) => None,
             _ => {
                 self.observer.is_left();
                 None
             }
-        };
-        desk.note(breach);
+        }
+    }
+
+    fn is_written(&mut self, bytes: &[u8], reply: Reply) -> Option<Breach> {
+        match reply {
+            Reply::Wrote(count) => {
+                self.observer.wrote(bytes.get(..count).unwrap_or(&[]));
+                None
+            }
+            Reply::Failed(why) => {
+                self.observer.loses();
+                self.observer.failed(why)
+            }
+            _ => None,
+        }
     }
 
     // Drops a future at a point.
@@ -460,7 +479,7 @@ impl Places {
 // How many bytes a future fills.
 fn exact_of(future: &Lasting) -> usize {
     match future {
-        Lasting::Exact(count) => *count,
+        Lasting::Exact(count) | Lasting::Read(count) => *count,
         _ => 0,
     }
 }

@@ -4,8 +4,8 @@ use crate::patience::{POLLS, Patience};
 use crate::stage::{Ask, Lasting, Leaving, Owner, Reply, Why};
 use crate::work::Carrier;
 use blocking::{
-    AsyncRead, AsyncReadExt, AsyncSeek, AsyncWrite, AsyncWriteExt, IntoInner, IoFault, Runtime,
-    Unblock,
+    AsyncRead, AsyncReadExt, AsyncSeek, AsyncSeekExt, AsyncWrite, AsyncWriteExt, IntoInner,
+    IoFault, Runtime, Unblock,
 };
 use blocking_anytime::Open;
 use blocking_core::io::Fault;
@@ -238,6 +238,96 @@ fn reads_exactly<A: AsyncRead>(
     }
 }
 
+fn reads_some<A: AsyncRead>(
+    owner: &mut A,
+    task: &MockTask,
+    patience: &Patience,
+    room: &mut [u8],
+) -> Poll<Reply>
+    requires { A.closed owner.old → ⊥ }
+{
+    match awaited(owner.read(room), task, patience) {
+        None => Poll::Pending,
+        Some(Ok(count)) => Poll::Ready(Reply::Read(count)),
+        Some(Err(fault)) => Poll::Ready(failed(fault)),
+    }
+}
+
+fn writes_some<A: AsyncWrite>(
+    owner: &mut A,
+    task: &MockTask,
+    patience: &Patience,
+    bytes: &[u8],
+) -> Poll<Reply>
+    requires { A.closed owner.old → ⊥ }
+{
+    match awaited(owner.write(bytes), task, patience) {
+        None => Poll::Pending,
+        Some(Ok(count)) => Poll::Ready(Reply::Wrote(count)),
+        Some(Err(fault)) => Poll::Ready(failed(fault)),
+    }
+}
+
+fn seeks<A: AsyncSeek>(
+    owner: &mut A,
+    task: &MockTask,
+    patience: &Patience,
+    to: SeekFrom,
+) -> Poll<Reply>
+    requires { A.closed owner.old → ⊥ }
+{
+    match awaited(owner.seek(to), task, patience) {
+        None => Poll::Pending,
+        Some(Ok(place)) => Poll::Ready(Reply::Number(place)),
+        Some(Err(fault)) => Poll::Ready(failed(fault)),
+    }
+}
+
+// Flushes, or closes.
+fn settles<A: AsyncWrite>(
+    owner: &mut A,
+    task: &MockTask,
+    patience: &Patience,
+    is_closed: bool,
+) -> Poll<Reply> {
+    let settled = if is_closed {
+        awaited(owner.close(), task, patience)
+    } else {
+        awaited(owner.flush(), task, patience)
+    };
+    match settled {
+        None => Poll::Pending,
+        Some(Ok(())) => Poll::Ready(Reply::Done),
+        Some(Err(fault)) => Poll::Ready(failed(fault)),
+    }
+}
+
+// What a future answers that any open reader, writer and seeker has.
+fn finish_open<A: AsyncRead + AsyncWrite + AsyncSeek>(
+    owner: &mut A,
+    task: &MockTask,
+    patience: &Patience,
+    lasting: &Lasting,
+    room: &mut [u8],
+    rest: &mut Vec<u8>,
+) -> Poll<Reply>
+    requires reads { A.AsyncRead.closed owner.old → ⊥ }
+    requires writes { A.AsyncWrite.closed owner.old → ⊥ }
+    requires seeks { A.AsyncSeek.closed owner.old → ⊥ }
+{
+    match lasting {
+        Lasting::Exact(_) => reads_exactly(owner, task, patience, room),
+        Lasting::Rest => reads_rest(owner, task, patience, rest),
+        Lasting::Whole(bytes) => writes_all(owner, task, patience, bytes.as_slice()),
+        Lasting::Read(_) => reads_some(owner, task, patience, room),
+        Lasting::Write(bytes) => writes_some(owner, task, patience, bytes.as_slice()),
+        Lasting::Flush => settles(owner, task, patience, false),
+        Lasting::Close => settles(owner, task, patience, true),
+        Lasting::Seek(to) => seeks(owner, task, patience, *to),
+        Lasting::Jump(_) | Lasting::Inner => Poll::Ready(Reply::Nothing),
+    }
+}
+
 fn reads_rest<A: AsyncRead>(
     owner: &mut A,
     task: &MockTask,
@@ -265,23 +355,6 @@ fn writes_all<A: AsyncWrite>(
         None => Poll::Pending,
         Some(Ok(())) => Poll::Ready(Reply::Done),
         Some(Err(fault)) => Poll::Ready(failed(fault)),
-    }
-}
-
-// What a future of an owner that can't be closed answers.
-fn finish_open<J: Carrier<H>, H: Runtime + Drop>(
-    owner: &mut Opened<J, H>,
-    task: &MockTask,
-    patience: &Patience,
-    lasting: &Lasting,
-    room: &mut [u8],
-    rest: &mut Vec<u8>,
-) -> Poll<Reply> {
-    match lasting {
-        Lasting::Exact(_) => reads_exactly(owner, task, patience, room),
-        Lasting::Rest => reads_rest(owner, task, patience, rest),
-        Lasting::Whole(bytes) => writes_all(owner, task, patience, bytes.as_slice()),
-        Lasting::Jump(_) | Lasting::Inner => Poll::Ready(Reply::Nothing),
     }
 }
 
@@ -406,14 +479,15 @@ impl<J: Carrier<H>, H: Runtime + Drop> Owner for Lending<J, H> {
             _ => return Poll::Ready(Reply::Nothing),
         };
         if owner.is_closed() {
-            return Poll::Ready(Reply::Nothing);
+            return match lasting {
+                Lasting::Flush => settles(owner, task, patience, false),
+                Lasting::Close => settles(owner, task, patience, true),
+                _ => Poll::Ready(Reply::Nothing),
+            };
         }
         match lasting {
-            Lasting::Exact(_) => reads_exactly(owner, task, patience, room),
-            Lasting::Rest => reads_rest(owner, task, patience, rest),
-            Lasting::Whole(bytes) => writes_all(owner, task, patience, bytes.as_slice()),
             Lasting::Jump(to) => operates(owner, task, patience, *to),
-            Lasting::Inner => Poll::Ready(Reply::Nothing),
+            _ => finish_open(owner, task, patience, lasting, room, rest),
         }
     }
 
@@ -457,7 +531,7 @@ impl<J: Carrier<H>, H: Runtime + Drop> Owner for Lending<J, H> {
                     met,
                 )
             }
-            Lasting::Inner => false,
+            _ => false,
         }
     }
 

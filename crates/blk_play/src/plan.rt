@@ -1,6 +1,6 @@
 //! What a scripted handle does: its bytes, and its answers call by call.
 use crate::gates::Stop;
-use std::alloc::Global;
+use std::alloc::{AllocError, Global};
 
 /// What a handle has.
 #[derive(Drop)]
@@ -87,6 +87,24 @@ pub(crate) enum Kind {
     Operate,
 }
 
+// How many lists of answers a plan has: one for each kind, and one for all.
+const LISTS: usize = 7;
+
+/// The place of the answers of calls of any kind, which come behind their kind's.
+pub(crate) const ALL: usize = 6;
+
+/// The place of the answers of a kind.
+pub(crate) fn place_of(kind: Kind) -> usize {
+    match kind {
+        Kind::Read => 0,
+        Kind::Write => 1,
+        Kind::Flush => 2,
+        Kind::Item => 3,
+        Kind::Seek => 4,
+        Kind::Operate => 5,
+    }
+}
+
 /// A handle as a script plans it.
 #[derive(Drop)]
 pub(crate) struct Plan {
@@ -97,50 +115,37 @@ pub(crate) struct Plan {
     pub yields: u64,
     /// How many bytes or items are logged of what it gave, and of what it took.
     pub logged: usize,
-    pub reads: Answers,
-    pub writes: Answers,
-    pub flushes: Answers,
-    pub items: Answers,
-    pub seeks: Answers,
-    pub operations: Answers,
-    /// Those of calls of any kind, which come behind their kind's.
-    pub all: Answers,
+    /// The answers of each kind, and of all.
+    pub lists: Vec<Answers>,
     /// Where it stands when it is dropped.
     pub dropping: Stop,
 }
 
 impl Plan {
     /// One of these bytes, whose cursor answers all calls.
-    pub(crate) fn new(alloc: Global, source: Source) -> Plan {
-        Plan {
+    pub(crate) fn new(alloc: Global, source: Source) -> Result<Plan, AllocError> {
+        let mut lists = Vec::new(alloc);
+        for _ in 0..LISTS {
+            lists.push(Answers::new(alloc))?;
+        }
+        Ok(Plan {
             source,
             by: usize::MAX,
             yields: 0,
             logged: 1024,
-            reads: Answers::new(alloc),
-            writes: Answers::new(alloc),
-            flushes: Answers::new(alloc),
-            items: Answers::new(alloc),
-            seeks: Answers::new(alloc),
-            operations: Answers::new(alloc),
-            all: Answers::new(alloc),
+            lists,
             dropping: Stop::default(),
-        }
+        })
     }
 
     /// What the next call of this kind answers; None where its cursor says.
     pub(crate) fn next_answer(&mut self, kind: Kind) -> Option<&Planned> {
-        let of_kind = match kind {
-            Kind::Read => &mut self.reads,
-            Kind::Write => &mut self.writes,
-            Kind::Flush => &mut self.flushes,
-            Kind::Item => &mut self.items,
-            Kind::Seek => &mut self.seeks,
-            Kind::Operate => &mut self.operations,
+        let place = place_of(kind);
+        let has_more = match self.lists.get(place) {
+            Some(answers) => answers.has_more(),
+            None => false,
         };
-        if of_kind.has_more() {
-            return of_kind.advance();
-        }
-        self.all.advance()
+        let answers = self.lists.get_mut(if has_more { place } else { ALL })?;
+        answers.advance()
     }
 }

@@ -122,7 +122,6 @@ impl<S: Stage> Player<S> {
             room: vec![in alloc; 0u8; room]?,
             whole: Vec::new(alloc),
             text: String::with_capacity(alloc, 256)?,
-            first: String::with_capacity(alloc, 256)?,
             wakers,
             breach: None,
         };
@@ -482,14 +481,15 @@ impl<S: Stage> Player<S> {
         parties: Parties,
         first: Shown,
     ) -> io::Result<bool> {
-        self.desk.first.clear();
-        self.desk.first.push_str(self.desk.text.as_str())?;
+        let alloc = self.desk.alloc;
+        let text = std::mem::replace(&mut self.desk.text, String::new(alloc));
         let mut is_same = true;
         for place in parties.first.saturating_add(1)..=parties.last {
             let shown = self.tried(numbered, place)?;
-            let is_text_same = self.desk.first.as_str() == self.desk.text.as_str();
+            let is_text_same = text.as_str() == self.desk.text.as_str();
             is_same = is_same && shown == first && (shown != Shown::Text || is_text_same);
         }
+        self.desk.text = text;
         Ok(is_same)
     }
 
@@ -609,14 +609,15 @@ impl<S: Stage> Player<S> {
         self.drop_all();
         let _ = self.stage.sweep();
         let stage = &self.stage;
-        if !self
+        let rests = self
             .desk
             .patience
-            .until(|| is_at_rest(stage.standing(), usize::MAX))
-        {
-            self.desk.note(Some("the pool didn't come to rest"));
+            .until(|| is_at_rest(stage.standing(), usize::MAX));
+        if !self.desk.patience.is_over() {
+            self.desk
+                .note((!rests).then_some("the pool didn't come to rest"));
+            self.compare_all();
         }
-        self.compare_all();
         self.desk.gates.shut_all();
         Ok(())
     }

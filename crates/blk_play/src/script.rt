@@ -101,34 +101,28 @@ fn end_of(lines: &[Numbered], begin: usize) -> Option<usize> {
     None
 }
 
+// Notes where the block ends that begins at a place, if one does. Whether that can be.
+fn find_end(lines: &mut [Numbered], place: usize, open: usize) -> Option<usize> {
+    let end = match lines.get(place)?.line {
+        Line::Begin(..) => end_of(lines, place.saturating_add(1))?,
+        Line::End => return open.checked_sub(1),
+        _ => return Some(open),
+    };
+    if let Some(numbered) = lines.get_mut(place)
+        && let Line::Begin(_, length) = &mut numbered.line
+    {
+        *length = end.saturating_sub(place);
+    }
+    Some(open.saturating_add(1))
+}
+
 // Notes where each block ends. Whether each has its end, and each end its block.
 fn find_ends(lines: &mut [Numbered]) -> bool {
     let mut open = 0usize;
     for place in 0..lines.len() {
-        let end = end_of(lines, place.saturating_add(1));
-        match lines.get_mut(place) {
-            Some(
-                Numbered {
-                    line: Line::Begin(_, length),
-                    ..
-                },
-            ) => match end {
-                Some(end) => {
-                    *length = end.saturating_sub(place);
-                    open = open.saturating_add(1);
-                }
-                None => return false,
-            },
-            Some(
-                Numbered {
-                    line: Line::End,
-                    ..
-                },
-            ) => match open.checked_sub(1) {
-                Some(left) => open = left,
-                None => return false,
-            },
-            _ => {}
+        match find_end(lines, place, open) {
+            Some(now_open) => open = now_open,
+            None => return false,
         }
     }
     true

@@ -66,7 +66,7 @@ pub(crate) enum Reply {
     Nothing,
 }
 
-/// A future that lasts several polls, and borrows its owner.
+/// A future of an owner, which lasts several polls.
 #[derive(Drop)]
 pub(crate) enum Lasting {
     /// Fills the buffer.
@@ -75,6 +75,13 @@ pub(crate) enum Lasting {
     Rest,
     /// Writes all.
     Whole(Vec<u8>),
+    /// One read of at most so many bytes.
+    Read(usize),
+    /// One write of these bytes, or of a first part of them.
+    Write(Vec<u8>),
+    Flush,
+    Close,
+    Seek(SeekFrom),
     /// An operation that jumps there.
     Jump(u64),
     /// The handle for good, which takes the owner.

@@ -81,7 +81,7 @@ pub(crate) struct Track {
 }
 
 // How many faults of a handle are logged.
-const FAULTS: usize = 256;
+const FAULTS: usize = 16;
 
 impl Track {
     pub(crate) fn new(alloc: Global, logged: usize) -> Result<Track, AllocError> {

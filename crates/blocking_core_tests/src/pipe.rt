@@ -1,6 +1,8 @@
 //! The worked rows of the pipe.
-pub(crate) mod bench;
+mod bench;
+mod fetching;
 mod flat;
+mod lending;
 mod lent;
 mod lists;
 
@@ -10,11 +12,11 @@ use self::bench::Shown::{
 use self::bench::Step::{
     CloseJob, CloseOwner, Consume, Drain, Fill, Free, Len, Peek, Put, Receive, Send, Unseat,
 };
-use self::bench::{Bench, Line, Row, Step, play, play_over};
+use self::bench::{Bench, Line, Row, Step, play_over, play_pieces};
 use crate::stop::stop;
 use blocking_core::pipe::{
-    Answered, BytePipe, DEFAULT_BYTES, DEFAULT_ITEMS, FlatStore, ItemPipe, Peeked, Pipe, Received,
-    Room, Sending,
+    Answered, BytePipe, DEFAULT_BYTES, DEFAULT_ITEMS, FlatStore, ItemPipe, LendingStore, Peeked,
+    Pipe, Received, RingStore, Room, Sending,
 };
 use blocking_core::pool::JobNo;
 use std::alloc::AllocError;
@@ -71,11 +73,6 @@ const BYTES: &[Row] = &[
     },
 ];
 
-#[test]
-fn bytes_are_drained_and_filled(rt: HostRuntime) {
-    play(&rt, BYTES);
-}
-
 const ITEMS: &[Row] = &[
     Row {
         name: "one item passes at a time",
@@ -110,11 +107,6 @@ const ITEMS: &[Row] = &[
     },
 ];
 
-#[test]
-fn items_are_sent_and_received(rt: HostRuntime) {
-    play(&rt, ITEMS);
-}
-
 // All calls that take no memory. Once the bench stands, `rt try --test --fail-alloc N` finds no further piece to refuse.
 const ONE_PIECE: &[Row] = &[Row {
     name: "one piece of memory",
@@ -138,11 +130,6 @@ const ONE_PIECE: &[Row] = &[Row {
     ],
 }];
 
-#[test]
-fn pipe_takes_one_piece_of_memory(rt: HostRuntime) {
-    play_over::<FlatStore, HostRuntime>(&rt, ONE_PIECE);
-}
-
 const EIGHT_MEBIBYTES: &[Row] = &[Row {
     name: "a pipe of bytes where nobody says how many",
     capacity: DEFAULT_BYTES,
@@ -154,8 +141,26 @@ const EIGHT_MEBIBYTES: &[Row] = &[Row {
 }];
 
 #[test]
-fn default_pipe_of_bytes_has_room_for_eight_mebibytes(rt: HostRuntime) {
+fn pipe_takes_one_piece_of_memory(rt: HostRuntime) {
+    play_over::<FlatStore, HostRuntime>(&rt, ONE_PIECE);
+}
+
+// (nor is there one to refuse here)
+#[test]
+fn lending_pipe_takes_its_memory_at_once(rt: HostRuntime) {
+    play_pieces(&rt, lending::ALONE);
+}
+
+#[test]
+fn rows_are_shown(rt: HostRuntime) {
+    for rows in [BYTES, ITEMS, lent::LOANS] {
+        play_over::<RingStore, HostRuntime>(&rt, rows);
+        play_over::<FlatStore, HostRuntime>(&rt, rows);
+        play_over::<LendingStore, HostRuntime>(&rt, rows);
+    }
     play_over::<FlatStore, HostRuntime>(&rt, EIGHT_MEBIBYTES);
+    play_pieces(&rt, lending::ROWS);
+    play_pieces(&rt, fetching::ROWS);
 }
 
 // The first two rounds: from then on four bytes are inside before each.

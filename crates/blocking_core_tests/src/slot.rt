@@ -95,7 +95,14 @@ fn stands(alloc: Global, slot: &Slot<u32, u8>, inside: Inside, seat: Option<u8>)
 
 fn answer(slot: &mut Slot<u32, u8>, step: Step) -> Shown {
     match step {
-        Poll(waker) => polled(slot.poll(waker)),
+        Poll(waker) => {
+            let Polled { answer, spare } = slot.poll(waker);
+            match answer {
+                Slotted::Value(value) => Value(value, spare),
+                Slotted::Gone(_) => Gone(spare),
+                Slotted::Waits(_) => Waits(spare),
+            }
+        }
         Look => match slot.look() {
             Looked::Value(value) => Found(value),
             Looked::Seat(waker) => Seat(waker),
@@ -106,14 +113,6 @@ fn answer(slot: &mut Slot<u32, u8>, step: Step) -> Shown {
         }
         GiveUp => GaveUp(slot.give_up()),
         Abandon => Left(slot.abandon()),
-    }
-}
-
-fn polled(polled: Polled<u32, u8>) -> Shown {
-    match polled.answer {
-        Slotted::Value(value) => Value(value, polled.spare),
-        Slotted::Gone(_) => Gone(polled.spare),
-        Slotted::Waits(_) => Waits(polled.spare),
     }
 }
 
@@ -210,11 +209,6 @@ const ONCE: &[Row] = &[
     },
 ];
 
-#[test]
-fn value_passes_once(rt: HostRuntime) {
-    play(&rt, ONCE);
-}
-
 const PUTS: &[Row] = &[
     Row {
         name: "a put where it is empty",
@@ -264,11 +258,6 @@ const PUTS: &[Row] = &[
         end: &AS_OVER,
     },
 ];
-
-#[test]
-fn put_by_standing(rt: HostRuntime) {
-    play(&rt, PUTS);
-}
 
 // (twice, since the second changes nothing)
 const GIVE_UPS: &[Row] = &[
@@ -325,11 +314,6 @@ const GIVE_UPS: &[Row] = &[
     },
 ];
 
-#[test]
-fn give_up_by_standing(rt: HostRuntime) {
-    play(&rt, GIVE_UPS);
-}
-
 // (twice, since the second changes nothing)
 const ABANDONS: &[Row] = &[
     Row {
@@ -384,11 +368,6 @@ const ABANDONS: &[Row] = &[
     },
 ];
 
-#[test]
-fn abandon_by_standing(rt: HostRuntime) {
-    play(&rt, ABANDONS);
-}
-
 const POLLS: &[Row] = &[
     Row {
         name: "a poll where it is empty",
@@ -436,11 +415,6 @@ const POLLS: &[Row] = &[
         end: &AS_OVER,
     },
 ];
-
-#[test]
-fn poll_by_standing(rt: HostRuntime) {
-    play(&rt, POLLS);
-}
 
 const LOOKS: &[Row] = &[
     Row {
@@ -491,6 +465,8 @@ const LOOKS: &[Row] = &[
 ];
 
 #[test]
-fn look_by_standing(rt: HostRuntime) {
-    play(&rt, LOOKS);
+fn calls_answer_by_standing(rt: HostRuntime) {
+    for rows in [ONCE, PUTS, GIVE_UPS, ABANDONS, POLLS, LOOKS] {
+        play(&rt, rows);
+    }
 }

@@ -1,15 +1,18 @@
 //! The player of the pipe's rows. It promises nothing: what its helpers need is tested where they run.
 use crate::stop::stop;
 use blocking_core::pipe::{
-    Answered, CopyStore, Drained, Fetched, Filled, FlatStore, LendingStore, Peeked, Pipe, Put,
-    Received, RingStore, Room, Sending,
+    Answered, CopyStore, Drained, Fetched, Filled, LendingMemory, LendingStore, Peeked, Pipe, Put,
+    Received, Room, Sending,
 };
 use blocking_core::pool::{Job, JobNo, JobStep, Pool, StartRefused, Starter, WakeNote};
 use std::alloc::{AllocGlobal, Global};
 use std::process::Abort;
 
-// How many items a peek or a drain asks for at most.
-const PIECE: usize = 7;
+// How many items a peek or a drain asks for at most, and for how many bytes the pieces of the job and of the owner have memory at first.
+pub(super) const PIECE: usize = 7;
+
+// For how many bytes the hand has memory at first. Pieces are told apart by that.
+pub(super) const HAND: usize = 4;
 
 // What stands in a piece before a peek or a drain.
 const BLANK: u8 = b'.';
@@ -56,6 +59,10 @@ pub(super) enum Step {
     Free,
     /// How many are lent?
     Lent,
+    /// For how many bytes has the owner's ready piece memory?
+    ReadyMemory,
+    /// For how many has what the last loan stands in?
+    HandMemory,
 }
 
 /// What a call shows.
@@ -98,6 +105,18 @@ pub(super) enum Shown {
 /// A step, and what it has to show.
 pub(super) type Line = (Step, Shown);
 
+/// The same, with how many bytes are lent then, how many more the pipe holds, and for how many the job's own piece has memory.
+pub(super) type CountedLine = (Step, Shown, usize, usize, usize);
+
+/// A row of a pipe that lends pieces of so many bytes.
+#[derive(Clone, Copy)]
+pub(super) struct PieceRow {
+    pub(super) name: &'static str,
+    pub(super) capacity: usize,
+    pub(super) whole: usize,
+    pub(super) steps: &'static [CountedLine],
+}
+
 /// A row of a pipe.
 #[derive(Clone, Copy)]
 pub(super) struct Row {
@@ -138,8 +157,8 @@ impl Starter for Starts {
 
 /// A pipe over a store, and a pool whose jobs use it: their notes are spent there.
 #[derive(Drop)]
-pub(crate) struct Bench<S: CopyStore<u8>> {
-    pipe: Pipe<u8, u8, S>,
+pub(super) struct Bench<S: CopyStore<u8>> {
+    pub(super) pipe: Pipe<u8, u8, S>,
     // What the job puts a piece from, what it was lent, and what stands ready of the owner.
     piece: Vec<u8>,
     hand: Vec<u8>,
@@ -148,27 +167,42 @@ pub(crate) struct Bench<S: CopyStore<u8>> {
     jobs: Vec<JobNo>,
 }
 
-/// Plays rows over each store, each from its beginning on, and tells where one shows something else.
-pub(super) fn play<R: AllocGlobal + Abort>(rt: &R, rows: &[Row]) {
-    play_over::<RingStore, R>(rt, rows);
-    play_over::<FlatStore, R>(rt, rows);
-    play_over::<LendingStore, R>(rt, rows);
-}
-
-/// Plays rows over a store.
-pub(super) fn play_over<S: CopyStore<u8>, R: AllocGlobal + Abort>(rt: &R, rows: &[Row]) {
+/// Plays rows of pipes that lend pieces, each from its beginning on, and tells where one shows something else.
+pub(super) fn play_pieces<R: AllocGlobal + Abort>(rt: &R, rows: &[PieceRow]) {
     for row in rows {
-        if let Some(line) = first_wrong_of::<S>(rt.alloc(), row) {
-            stop(rt, row.name, line);
+        let Some(mut bench) = lending(rt.alloc(), row.capacity, row.whole) else {
+            stop(rt, row.name, row.steps.len())
+        };
+        for (line, (step, shown, lent, room, memory)) in row.steps.iter().enumerate() {
+            let is = bench.take_step(*step);
+            let counts = (bench.pipe.lent(), bench.pipe.room(), bench.piece.capacity());
+            if is != *shown || counts != (*lent, *room, *memory) {
+                stop(rt, row.name, line);
+            }
         }
     }
 }
 
-// The place of the first line that shows something else: the end, where there was no memory for the bench.
-fn first_wrong_of<S: CopyStore<u8>>(alloc: Global, row: &Row) -> Option<usize> {
-    match Bench::<S>::new(alloc, row.capacity) {
-        Some(mut bench) => bench.first_wrong(row.steps),
-        None => Some(row.steps.len()),
+/// A bench of a pipe that lends pieces of so many bytes.
+pub(super) fn lending(alloc: Global, capacity: usize, whole: usize) -> Option<Bench<LendingStore>> {
+    if capacity == 0 || whole == 0 {
+        return None;
+    }
+    Bench::over(
+        alloc,
+        Pipe::over(LendingMemory::with_piece(alloc, capacity, whole).ok()?),
+    )
+}
+
+/// Plays rows over a store, each from its beginning on, and tells where one shows something else.
+pub(super) fn play_over<S: CopyStore<u8>, R: AllocGlobal + Abort>(rt: &R, rows: &[Row]) {
+    for row in rows {
+        let Some(mut bench) = Bench::<S>::new(rt.alloc(), row.capacity) else {
+            stop(rt, row.name, row.steps.len())
+        };
+        if let Some(line) = bench.first_wrong(row.steps) {
+            stop(rt, row.name, line);
+        }
     }
 }
 
@@ -183,18 +217,8 @@ fn piece_of(first: u8, count: usize) -> [u8; PIECE] {
     piece
 }
 
-// Adds six jobs, and tells their numbers.
-fn add_jobs(alloc: Global, pool: &mut Pool<Idle>) -> Option<Vec<JobNo>> {
-    let mut jobs = Vec::new(alloc);
-    for _ in 0..6 {
-        let no = pool.add(Idle, &mut Starts).ok()?;
-        jobs.push(no).ok()?;
-    }
-    Some(jobs)
-}
-
 impl<S: CopyStore<u8>> Bench<S> {
-    pub(crate) fn new(alloc: Global, capacity: usize) -> Option<Bench<S>> {
+    pub(super) fn new(alloc: Global, capacity: usize) -> Option<Bench<S>> {
         if capacity == 0 {
             return None;
         }
@@ -202,13 +226,17 @@ impl<S: CopyStore<u8>> Bench<S> {
     }
 
     /// A bench of this pipe.
-    pub(crate) fn over(alloc: Global, pipe: Pipe<u8, u8, S>) -> Option<Bench<S>> {
+    pub(super) fn over(alloc: Global, pipe: Pipe<u8, u8, S>) -> Option<Bench<S>> {
         let mut pool = Pool::new(alloc, None);
-        let jobs = add_jobs(alloc, &mut pool)?;
+        let mut jobs = Vec::new(alloc);
+        for _ in 0..6 {
+            let no = pool.add(Idle, &mut Starts).ok()?;
+            jobs.push(no).ok()?;
+        }
         Some(Bench {
             pipe,
             piece: Vec::with_capacity(alloc, PIECE).ok()?,
-            hand: Vec::with_capacity(alloc, PIECE).ok()?,
+            hand: Vec::with_capacity(alloc, HAND).ok()?,
             ready: Vec::with_capacity(alloc, PIECE).ok()?,
             pool,
             jobs,
@@ -223,11 +251,6 @@ impl<S: CopyStore<u8>> Bench<S> {
             }
         }
         None
-    }
-
-    /// The pipe.
-    pub(super) fn pipe(&self) -> &Pipe<u8, u8, S> {
-        &self.pipe
     }
 
     /// What a step shows.
@@ -248,16 +271,21 @@ impl<S: CopyStore<u8>> Bench<S> {
             Step::Receive(waker) => self.receive(waker),
             Step::Fetch(waker, most) => self.fetch(waker, most),
             Step::LetGoFetched(count) => self.let_go_fetched(count),
-            Step::CloseOwner => self.close_owner(),
+            Step::CloseOwner => {
+                let note = self.pipe.close_owner();
+                Shown::Due(self.spend(note))
+            }
             Step::Unseat => Shown::Waker(self.pipe.unseat_owner()),
             Step::Len => Shown::Are(self.pipe.len()),
             Step::Free => Shown::Are(self.pipe.room()),
             Step::Lent => Shown::Are(self.pipe.lent()),
+            Step::ReadyMemory => Shown::Are(self.ready.capacity()),
+            Step::HandMemory => Shown::Are(self.hand.capacity()),
         }
     }
 
     /// The number of the job of this serial.
-    pub(crate) fn job(&self, serial: u64) -> Option<JobNo> {
+    pub(super) fn job(&self, serial: u64) -> Option<JobNo> {
         for no in self.jobs.iter() {
             if no.serial() == serial {
                 return Some(*no);
@@ -267,7 +295,7 @@ impl<S: CopyStore<u8>> Bench<S> {
     }
 
     /// Spends a note, and tells the serial of its job.
-    pub(crate) fn spend(&mut self, note: Option<WakeNote>) -> Option<u64> {
+    pub(super) fn spend(&mut self, note: Option<WakeNote>) -> Option<u64> {
         let note = note?;
         let serial = note.job().serial();
         self.pool.wake(note, &mut Starts);
@@ -357,7 +385,7 @@ impl<S: CopyStore<u8>> Bench<S> {
         };
         // (what came back for it may have less memory)
         self.hand.clear();
-        if most == 0 || most > PIECE || self.hand.reserve(PIECE).is_err() {
+        if most == 0 || most > PIECE || self.hand.reserve(most).is_err() {
             return Shown::Misplaced;
         }
         let lent = self.pipe.lend_or_seat(no, most, &mut self.hand);
@@ -373,7 +401,7 @@ impl<S: CopyStore<u8>> Bench<S> {
     fn fetch(&mut self, waker: u8, most: usize) -> Shown {
         // (what came back for it may have less memory)
         self.hand.clear();
-        if most == 0 || most > PIECE || self.hand.reserve(PIECE).is_err() {
+        if most == 0 || most > PIECE || self.hand.reserve(most).is_err() {
             return Shown::Misplaced;
         }
         let Answered { answer, spare } = self.pipe.fetch_or_seat(waker, most, &mut self.hand);
@@ -461,10 +489,5 @@ impl<S: CopyStore<u8>> Bench<S> {
             Received::Ended => Shown::Over(spare),
             Received::Waits(_) => Shown::Waits(spare),
         }
-    }
-
-    fn close_owner(&mut self) -> Shown {
-        let note = self.pipe.close_owner();
-        Shown::Due(self.spend(note))
     }
 }

@@ -24,7 +24,7 @@ fn first_wrong(alloc: Global, lines: &[(Line, usize, usize)]) -> Option<usize> {
     };
     for (place, ((step, wanted), head, len)) in lines.iter().enumerate() {
         let shown = bench.take_step(*step);
-        if shown != *wanted || bench.pipe().memory().head() != *head || bench.pipe().len() != *len {
+        if shown != *wanted || bench.pipe.memory().head() != *head || bench.pipe.len() != *len {
             return Some(place);
         }
     }
@@ -77,7 +77,7 @@ fn each_capacity_whose_bytes_can_be_had_is_served(rt: HostRuntime) {
         (Drain(7, 4), Got(b'a', 4, None, Some(7))),
         (Peek(1, 7), Sees(b'e', 3)),
     ];
-    if bench.first_wrong(&lines).is_some() || bench.pipe().room() != most.saturating_sub(3) {
+    if bench.first_wrong(&lines).is_some() || bench.pipe.room() != most.saturating_sub(3) {
         stop(&rt, name, 2);
     }
 }

@@ -1,12 +1,12 @@
 //! The worked rows of what a pipe lends.
+use super::bench::Row;
 use super::bench::Shown::{Are, Due, Got, In, Sees, SeesNone, Took, Waits, Waker};
 use super::bench::Step::{
     CloseOwner, Drain, Fill, FillReady, Free, Lend, Lent, LetGo, Peek, Put, PutPiece,
 };
-use super::bench::{Row, play};
 use blocking_core::pipe::Peeked;
 
-const LOANS: &[Row] = &[
+pub(super) const LOANS: &[Row] = &[
     Row {
         name: "what is lent takes room until it is let go",
         capacity: 3,
@@ -42,8 +42,3 @@ const LOANS: &[Row] = &[
         ],
     },
 ];
-
-#[test]
-fn what_is_lent_takes_room(rt: HostRuntime) {
-    play(&rt, LOANS);
-}

@@ -1,7 +1,7 @@
 //! Lists of calls, drawn by a fixed seed, over each store: all show the same.
-use super::bench::{Bench, Shown, Step};
+use super::bench::{Bench, Shown, Step, lending};
 use crate::stop::stop;
-use blocking_core::pipe::{CopyStore, FlatStore, LendingMemory, LendingStore, Pipe, RingStore};
+use blocking_core::pipe::{CopyStore, FlatStore, RingStore};
 use std::alloc::Global;
 
 // How many lists are drawn for each capacity, and how many calls each has.
@@ -58,21 +58,12 @@ impl Draws {
     }
 }
 
-// How many bytes a step of the job offers. (all or none go in)
-fn offered(step: Step) -> usize {
-    match step {
-        Step::Put(_, count) => count,
-        Step::PutPiece(_, count) => count,
-        Step::Send(_, _) => 1,
-        _ => 0,
-    }
-}
-
-// How many bytes such a step brought in, by what it shows.
+// How many bytes a step brought in, by what it shows. (all that a job offers goes in, or none)
 fn brought(step: Step, shown: Shown) -> usize {
-    match shown {
-        Shown::In(_) => offered(step),
-        Shown::Took(count, _, _) => count,
+    match (shown, step) {
+        (Shown::In(_), Step::Put(_, count) | Step::PutPiece(_, count)) => count,
+        (Shown::In(_), Step::Send(_, _)) => 1,
+        (Shown::Took(count, _, _), _) => count,
         _ => 0,
     }
 }
@@ -101,40 +92,14 @@ fn are_alike<A: CopyStore<u8>, B: CopyStore<u8>>(
     true
 }
 
-// Whether a pipe over this store and one over the ring show the same.
-fn is_like_ring<S: CopyStore<u8>>(
-    alloc: Global,
-    seed: u64,
-    capacity: usize,
-    pipe: Option<Pipe<u8, u8, S>>,
-) -> bool {
-    let (Some(mut ring), Some(pipe)) = (Bench::<RingStore>::new(alloc, capacity), pipe) else {
-        return false;
-    };
-    match Bench::over(alloc, pipe) {
-        Some(mut bench) => are_alike(seed, &mut ring, &mut bench),
-        None => false,
-    }
-}
-
-// Pieces of two bytes go in and come out as they are.
-fn lending(alloc: Global, capacity: usize) -> Option<Pipe<u8, u8, LendingStore>> {
-    if capacity == 0 {
-        return None;
-    }
-    Some(Pipe::over(LendingMemory::with_piece(alloc, capacity, 2).ok()?))
-}
-
-fn flat(alloc: Global, capacity: usize) -> Option<Pipe<u8, u8, FlatStore>> {
-    if capacity == 0 {
-        return None;
-    }
-    Pipe::new(alloc, capacity).ok()
-}
-
-fn all_are_alike(alloc: Global, seed: u64, capacity: usize) -> bool {
-    is_like_ring(alloc, seed, capacity, flat(alloc, capacity))
-        && is_like_ring(alloc, seed, capacity, lending(alloc, capacity))
+// Whether pipes over all stores show the same. (pieces of two bytes go in and come out as they are)
+fn all_are_alike(alloc: Global, seed: u64, capacity: usize) -> Option<bool> {
+    let mut ring = Bench::<RingStore>::new(alloc, capacity)?;
+    let mut flat = Bench::<FlatStore>::new(alloc, capacity)?;
+    let is_flat_alike = are_alike(seed, &mut ring, &mut flat);
+    let mut ring = Bench::<RingStore>::new(alloc, capacity)?;
+    let mut lending = lending(alloc, capacity, 2)?;
+    Some(is_flat_alike && are_alike(seed, &mut ring, &mut lending))
 }
 
 #[test]
@@ -143,7 +108,7 @@ fn all_stores_show_the_same(rt: HostRuntime) {
         for list in 0..LISTS {
             let number = LISTS.wrapping_mul(*capacity as u64).wrapping_add(list);
             let seed = 0x9e37_79b9_7f4a_7c15u64.wrapping_mul(number.wrapping_add(1));
-            if !all_are_alike(rt.alloc(), seed, *capacity) {
+            if all_are_alike(rt.alloc(), seed, *capacity) != Some(true) {
                 stop(&rt, "a list of calls", list as usize);
             }
         }

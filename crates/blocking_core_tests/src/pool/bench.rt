@@ -86,19 +86,21 @@ pub(super) struct Bench {
     hands: [Hand; 4],
 }
 
-/// Plays a row from its beginning on, and tells where it shows something else.
-pub(super) fn play<R: AllocGlobal + Abort>(rt: &R, row: &Row) {
-    let mut bench = Bench::new(rt.alloc(), row.pool);
-    if let Some(line) = bench.first_wrong(row.begin) {
-        stop(rt, row.name, line);
+/// Plays rows, each from its beginning on, and tells where one shows something else.
+pub(super) fn play<R: AllocGlobal + Abort>(rt: &R, rows: &[Row]) {
+    for row in rows {
+        let mut bench = Bench::new(rt.alloc(), row.pool);
+        if let Some(line) = bench.first_wrong(row.begin) {
+            stop(rt, row.name, line);
+        }
+        if let Some(line) = bench.first_wrong(row.steps) {
+            stop(rt, row.name, line);
+        }
+        if bench.starter.asked.as_slice() != row.starts {
+            stop(rt, row.name, row.steps.len());
+        }
+        bench.close(rt);
     }
-    if let Some(line) = bench.first_wrong(row.steps) {
-        stop(rt, row.name, line);
-    }
-    if bench.starter.asked.as_slice() != row.starts {
-        stop(rt, row.name, row.steps.len());
-    }
-    bench.close(rt);
 }
 
 // (numbers begin at 1)
@@ -139,28 +141,18 @@ fn waited(
     }
 }
 
-// (a job that was let go can't wait, and is done)
-fn finish(ending: Ending, job: Option<Marked>) -> Finish<Marked> {
-    match (ending, job) {
+// A worker's turn ends. (a job that was let go can't wait, and is done)
+fn ended(
+    pool: &mut Pool<Marked>,
+    turn: Turn,
+    ending: Ending,
+    job: Option<Marked>,
+) -> (Hand, Shown) {
+    let finish = match (ending, job) {
         (Ending::Waiting, Some(job)) => Finish::Waiting(job),
         (Ending::Dropped, _) => Finish::Dropped,
         (Ending::Done | Ending::Waiting, _) => Finish::Done,
-    }
-}
-
-// The job, with a mark.
-fn with_mark(job: Option<Marked>) -> Option<Marked> {
-    match job {
-        Some(Marked { number, .. }) => Some(Marked {
-            number,
-            is_marked: true,
-        }),
-        None => None,
-    }
-}
-
-// A worker's turn ends.
-fn ended(pool: &mut Pool<Marked>, turn: Turn, finish: Finish<Marked>) -> (Hand, Shown) {
+    };
     match pool.end(turn, finish) {
         Gone::Free(pass) => (Hand::Free(pass), Shown::Free),
         Gone::Drop(turn, job) => (Hand::Holds(turn, Some(job)), Shown::Drops(job.number)),
@@ -235,7 +227,10 @@ impl Bench {
             Step::Limit => Shown::LimitIs(self.pool.limit()),
             Step::ClientLimit => Shown::LimitIs(self.pool.client_limit()),
             Step::Ring => self.ring(),
-            Step::Switch => self.switch(),
+            Step::Switch => {
+                mem::swap(&mut self.pool, &mut self.other);
+                Shown::NoAnswer
+            }
         }
     }
 
@@ -282,11 +277,16 @@ impl Bench {
             (Work::Wait(until), Hand::Free(pass)) => {
                 waited(&mut self.pool, &mut self.starter, pass, until)
             }
-            (Work::End(ending), Hand::Holds(turn, job)) => {
-                ended(&mut self.pool, turn, finish(ending, job))
-            }
+            (Work::End(ending), Hand::Holds(turn, job)) => ended(&mut self.pool, turn, ending, job),
             (Work::Mark, Hand::Holds(turn, job)) => {
-                (Hand::Holds(turn, with_mark(job)), Shown::NoAnswer)
+                let marked = match job {
+                    Some(Marked { number, .. }) => Some(Marked {
+                        number,
+                        is_marked: true,
+                    }),
+                    None => None,
+                };
+                (Hand::Holds(turn, marked), Shown::NoAnswer)
             }
             (_, hand) => (hand, Shown::Misplaced),
         };
@@ -343,7 +343,6 @@ impl Bench {
         match count {
             Count::Workers => self.pool.thread_count(),
             Count::Idle => self.pool.idle_count(),
-            Count::Arriving => self.pool.arriving_count(),
             Count::Queued => self.pool.queue_len(),
             Count::Ready => self.pool.ready_len(),
         }
@@ -365,11 +364,6 @@ impl Bench {
             return Shown::Misplaced;
         };
         Shown::InFirstPlace(text.as_str().starts_with("JobNo { place: 0,"))
-    }
-
-    fn switch(&mut self) -> Shown {
-        mem::swap(&mut self.pool, &mut self.other);
-        Shown::NoAnswer
     }
 
     /// Ends every turn and dismisses every worker, so that nothing is left that has to be spent.

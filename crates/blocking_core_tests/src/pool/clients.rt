@@ -1,16 +1,15 @@
 //! The limit of running jobs for each client: which queued jobs are ready, which of them is taken, and what makes another one ready.
-use super::bench::play;
 use super::step::Count::{Idle, Queued, Ready, Workers};
 use super::step::Deed::{Cancel, Mark, Wake};
 use super::step::Ending::{Done, Dropped, Waiting};
 use super::step::Shown::{
-    Accepted, Are, Arrived, Drops, Free, Lent, LimitIs, NoAnswer, NoJob, Rang, Runs, Stays, Stops,
+    Accepted, Are, Arrived, Drops, Free, Lent, LimitIs, NoAnswer, NoJob, Rang, Runs, Stays,
     Stranger, Swept, Woke,
 };
 use super::step::Step::{
     Add, AddFor, Arrive, Ask, ClientLimit, Job, Ring, SetClientLimit, Sweep, Switch, Worker,
 };
-use super::step::Until::{Notified, TimedOut};
+use super::step::Until::TimedOut;
 use super::step::Work::{End, Take, Wait};
 use super::step::{LIMIT_4, Line, Row};
 use blocking_core::pool::BellKind::{All, One, Silent};
@@ -29,7 +28,7 @@ const ONE_EACH: [Line; 9] = [
     (SetClientLimit(Some(1)), NoAnswer),
 ];
 
-const ROWS: &[Row] = &[
+pub(super) const ROWS: &[Row] = &[
     Row {
         name: "a client at its limit is passed by, and its next job runs once one of its jobs is over",
         pool: LIMIT_4,
@@ -292,45 +291,4 @@ const ROWS: &[Row] = &[
         ],
         starts: &[1],
     },
-    Row {
-        name: "growth counts the jobs that are ready, and no others",
-        pool: LIMIT_4,
-        begin: &[],
-        steps: &[
-            (SetClientLimit(Some(1)), NoAnswer),
-            (AddFor(7, 1), Accepted(1)),
-            (Arrive, Arrived(1)),
-            (Worker(1, Take), Runs(1)),
-            (AddFor(7, 2), Accepted(2)),
-            (AddFor(7, 3), Accepted(3)),
-            (Ask(Workers), Are(1)),
-            (AddFor(8, 4), Accepted(4)),
-            (Ask(Workers), Are(2)),
-        ],
-        starts: &[1, 2],
-    },
-    Row {
-        name: "a worker whose wait times out stays beside a job that is not ready, and stops beside none",
-        pool: LIMIT_4,
-        begin: &ONE_EACH,
-        steps: &[
-            (AddFor(7, 1), Accepted(3)),
-            (AddFor(7, 2), Accepted(4)),
-            (Worker(1, Take), Runs(1)),
-            (Worker(2, Take), NoJob),
-            (Worker(2, Wait(TimedOut)), Stays),
-            (Worker(2, Wait(Notified)), Stays),
-            (Worker(1, End(Done)), Free),
-            (Worker(1, Take), Runs(2)),
-            (Worker(2, Wait(TimedOut)), Stops),
-        ],
-        starts: &[1, 2],
-    },
 ];
-
-#[test]
-fn client_rows(rt: HostRuntime) {
-    for row in ROWS {
-        play(&rt, row);
-    }
-}

@@ -1,123 +1,13 @@
-//! Growth by the queue, and starts that are refused.
-use super::bench::play;
-use super::step::Count::{Arriving, Idle, Queued, Workers};
-use super::step::Deed::{Mark, Wake};
-use super::step::Ending::Waiting;
-use super::step::Shown::{
-    Accepted, Are, Arrived, Free, Lent, LimitIs, NoAnswer, Rang, Refused, Runs, Swept, Woke,
-};
-use super::step::Step::{Add, Arrive, Ask, Job, Limit, Ring, SetLimit, Sweep, Worker};
-use super::step::Work::{End, Take};
+//! Starts that are refused, and the last numbers. (how the pool grows, the stored rows of `blk` show)
+use super::step::Count::{Idle, Queued, Workers};
+use super::step::Shown::{Accepted, Are, Arrived, LimitIs, NoAnswer, Rang, Refused, Runs};
+use super::step::Step::{Add, Arrive, Ask, Limit, Ring, SetLimit, Worker};
+use super::step::Work::Take;
 use super::step::{Given, LIMIT_4, NEW, Row};
 use blocking_core::pool::BellKind::{All, Silent};
 use blocking_core::pool::Refusal::{NoWorker, Numbers};
-use blocking_core::pool::Woke::Entered;
 
-const ROWS: &[Row] = &[
-    Row {
-        name: "eleven jobs start three workers",
-        pool: NEW,
-        begin: &[],
-        steps: &[
-            (Limit, LimitIs(None)),
-            (Add(0), Accepted(1)),
-            (Ask(Workers), Are(1)),
-            (Add(1), Accepted(2)),
-            (Ask(Workers), Are(1)),
-            (Add(2), Accepted(3)),
-            (Ask(Workers), Are(1)),
-            (Add(3), Accepted(4)),
-            (Ask(Workers), Are(1)),
-            (Add(4), Accepted(5)),
-            (Ask(Workers), Are(1)),
-            (Add(5), Accepted(6)),
-            (Ask(Workers), Are(2)),
-            (Add(6), Accepted(7)),
-            (Ask(Workers), Are(2)),
-            (Add(7), Accepted(8)),
-            (Ask(Workers), Are(2)),
-            (Add(8), Accepted(9)),
-            (Ask(Workers), Are(2)),
-            (Add(9), Accepted(10)),
-            (Ask(Workers), Are(2)),
-            (Add(10), Accepted(11)),
-            (Ask(Workers), Are(3)),
-            (Ask(Idle), Are(3)),
-            (Ask(Arriving), Are(3)),
-            (Ask(Queued), Are(11)),
-            (Limit, LimitIs(Some(500))),
-        ],
-        starts: &[1, 2, 3],
-    },
-    Row {
-        name: "six jobs start two workers at the limit 4",
-        pool: LIMIT_4,
-        begin: &[],
-        steps: &[
-            (Add(0), Accepted(1)),
-            (Ask(Workers), Are(1)),
-            (Add(1), Accepted(2)),
-            (Ask(Workers), Are(1)),
-            (Add(2), Accepted(3)),
-            (Ask(Workers), Are(1)),
-            (Add(3), Accepted(4)),
-            (Ask(Workers), Are(1)),
-            (Add(4), Accepted(5)),
-            (Ask(Workers), Are(1)),
-            (Add(5), Accepted(6)),
-            (Ask(Workers), Are(2)),
-        ],
-        starts: &[1, 2],
-    },
-    Row {
-        name: "a take lets the pool grow",
-        pool: LIMIT_4,
-        begin: &[],
-        steps: &[
-            (Add(1), Accepted(1)),
-            (Add(2), Accepted(2)),
-            (Arrive, Arrived(1)),
-            (Ask(Workers), Are(1)),
-            (Worker(1, Take), Runs(1)),
-            (Ask(Workers), Are(2)),
-        ],
-        starts: &[1, 2],
-    },
-    Row {
-        name: "a wake lets the pool grow",
-        pool: LIMIT_4,
-        begin: &[],
-        steps: &[
-            (Add(1), Accepted(1)),
-            (Arrive, Arrived(1)),
-            (Worker(1, Take), Runs(1)),
-            (Worker(1, End(Waiting)), Free),
-            (Add(2), Accepted(2)),
-            (Worker(1, Take), Runs(2)),
-            (Ask(Workers), Are(1)),
-            (Job(1, Wake), Woke(Entered)),
-            (Ask(Workers), Are(2)),
-        ],
-        starts: &[1, 2],
-    },
-    Row {
-        name: "a sweep lets the pool grow",
-        pool: LIMIT_4,
-        begin: &[],
-        steps: &[
-            (Add(1), Accepted(1)),
-            (Arrive, Arrived(1)),
-            (Worker(1, Take), Runs(1)),
-            (Worker(1, End(Waiting)), Free),
-            (Job(1, Mark), Lent(true)),
-            (Add(2), Accepted(2)),
-            (Worker(1, Take), Runs(2)),
-            (Ask(Workers), Are(1)),
-            (Sweep, Swept(1)),
-            (Ask(Workers), Are(2)),
-        ],
-        starts: &[1, 2],
-    },
+pub(super) const ROWS: &[Row] = &[
     Row {
         name: "the first start is refused",
         pool: Given {
@@ -192,10 +82,3 @@ const ROWS: &[Row] = &[
         starts: &[],
     },
 ];
-
-#[test]
-fn pool_grows(rt: HostRuntime) {
-    for row in ROWS {
-        play(&rt, row);
-    }
-}

@@ -1,5 +1,4 @@
 //! The limit, idle workers that stop, and whom the bell rings.
-use super::bench::play;
 use super::step::Count::{Idle, Queued, Workers};
 use super::step::Ending::Done;
 use super::step::Shown::{
@@ -11,7 +10,7 @@ use super::step::Work::{End, Take, Wait};
 use super::step::{LIMIT_4, NEW, Row};
 use blocking_core::pool::BellKind::{All, One, Silent};
 
-const ROWS: &[Row] = &[
+pub(super) const ROWS: &[Row] = &[
     Row {
         name: "three of four idle workers stop beside a queued job",
         pool: LIMIT_4,
@@ -115,10 +114,3 @@ const ROWS: &[Row] = &[
         starts: &[1],
     },
 ];
-
-#[test]
-fn limits_hold(rt: HostRuntime) {
-    for row in ROWS {
-        play(&rt, row);
-    }
-}

@@ -1,5 +1,4 @@
 //! Jobs that bear a mark, sweeps, also by a wait that timed out, and numbers of jobs that are over.
-use super::bench::play;
 use super::step::Count::{Idle, Queued};
 use super::step::Deed::{Cancel, Mark, Place, Wake};
 use super::step::Ending::{Done, Dropped, Waiting};
@@ -37,7 +36,7 @@ const MARKED: [Line; 19] = [
     (Ring, Rang(Silent)),
 ];
 
-const ROWS: &[Row] = &[
+pub(super) const ROWS: &[Row] = &[
     Row {
         name: "a job that is marked while it runs",
         pool: LIMIT_1,
@@ -215,10 +214,3 @@ const ROWS: &[Row] = &[
         starts: &[1],
     },
 ];
-
-#[test]
-fn marks_are_found(rt: HostRuntime) {
-    for row in ROWS {
-        play(&rt, row);
-    }
-}

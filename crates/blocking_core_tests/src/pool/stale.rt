@@ -1,6 +1,5 @@
 //! Wakes and cancels that come twice, too late, or by the number of a job that is over, before and after its place is used again. Each
 //! changes what the rules name for the standing, and nothing of another job.
-use super::bench::play;
 use super::step::Count::{Idle, Queued};
 use super::step::Deed::{Cancel, Place, Wake};
 use super::step::Ending::{Done, Dropped, Waiting};
@@ -11,7 +10,7 @@ use super::step::{LIMIT_1, READY, Row};
 use blocking_core::pool::Woke::{Entered, Marked, Nothing};
 
 // (in each row the first job is over, and stood where the second stands)
-const ROWS: &[Row] = &[
+pub(super) const ROWS: &[Row] = &[
     Row {
         name: "an old number changes nothing of a queued job at its place",
         pool: LIMIT_1,
@@ -154,10 +153,3 @@ const ROWS: &[Row] = &[
         starts: &[1],
     },
 ];
-
-#[test]
-fn stale_numbers_change_nothing(rt: HostRuntime) {
-    for row in ROWS {
-        play(&rt, row);
-    }
-}

@@ -83,7 +83,6 @@ pub(super) enum Until {
 pub(super) enum Count {
     Workers,
     Idle,
-    Arriving,
     Queued,
     Ready,
 }

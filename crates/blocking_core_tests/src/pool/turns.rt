@@ -1,5 +1,5 @@
 //! The order of jobs, their places, and turns that end in another pool.
-use super::bench::{Bench, play};
+use super::bench::Bench;
 use super::step::Count::{Idle, Queued};
 use super::step::Deed::Place;
 use super::step::Ending::{Done, Waiting};
@@ -9,27 +9,7 @@ use super::step::Work::{End, Take};
 use super::step::{Line, NEW, Row};
 use crate::stop::stop;
 
-const ROWS: &[Row] = &[
-    Row {
-        name: "two of six jobs are taken",
-        pool: NEW,
-        begin: &[],
-        steps: &[
-            (Add(0), Accepted(1)),
-            (Add(1), Accepted(2)),
-            (Add(2), Accepted(3)),
-            (Add(3), Accepted(4)),
-            (Add(4), Accepted(5)),
-            (Add(5), Accepted(6)),
-            (Arrive, Arrived(1)),
-            (Worker(1, Take), Runs(0)),
-            (Worker(1, End(Done)), Free),
-            (Arrive, Arrived(2)),
-            (Worker(2, Take), Runs(1)),
-            (Worker(2, End(Done)), Free),
-        ],
-        starts: &[1, 2],
-    },
+pub(super) const ROWS: &[Row] = &[
     // The other pool has a job of the same number, which is queued there.
     Row {
         name: "a turn that is done",
@@ -78,13 +58,6 @@ const FIRST_OF_A_THOUSAND: &[Line] = &[
     (Worker(1, End(Done)), Free),
     (Job(1, Place), InFirstPlace(true)),
 ];
-
-#[test]
-fn turns_pass(rt: HostRuntime) {
-    for row in ROWS {
-        play(&rt, row);
-    }
-}
 
 // A job that is added beside an idle worker, and runs to its end.
 fn one_more(job: u32) -> [Line; 4] {

@@ -1,5 +1,4 @@
 //! Jobs that wait and are woken, are cancelled, or are lent.
-use super::bench::play;
 use super::step::Count::{Idle, Queued, Workers};
 use super::step::Deed::{Cancel, Renumber, Wake};
 use super::step::Ending::{Done, Dropped, Waiting};
@@ -10,7 +9,7 @@ use super::step::{LIMIT_1, READY, Row};
 use blocking_core::pool::BellKind::{All, One, Silent};
 use blocking_core::pool::Woke::{Entered, Marked, Nothing};
 
-const ROWS: &[Row] = &[
+pub(super) const ROWS: &[Row] = &[
     Row {
         name: "a job that is woken while it runs goes back",
         pool: LIMIT_1,
@@ -133,10 +132,3 @@ const ROWS: &[Row] = &[
         starts: &[1],
     },
 ];
-
-#[test]
-fn jobs_wait(rt: HostRuntime) {
-    for row in ROWS {
-        play(&rt, row);
-    }
-}

@@ -1,0 +1,1 @@
+"""What scripts/edits is made of."""
