@@ -37,6 +37,8 @@
 //! files over one pool in `blocking_files`.
 #![tactic(auto)]
 
+mod copy_jobs;
+mod file_jobs;
 mod jobs;
 
 pub use blocking_core::io::Fault;
@@ -134,9 +136,9 @@ pub use blocking_unblock_jobs::OpJob;
 pub use blocking_unblock_jobs::ReadJob;
 pub use blocking_unblock_jobs::SeekJob;
 pub use blocking_unblock_jobs::WriteJob;
-pub use jobs::CallFileJobs;
-pub use jobs::CopyJobs;
-pub use jobs::FileJobs;
+pub use copy_jobs::CopyJobs;
+pub use file_jobs::CallFileJobs;
+pub use file_jobs::FileJobs;
 pub use jobs::Items;
 pub use jobs::Jobs;
 pub use jobs::Reader;
