@@ -40,6 +40,7 @@
 mod copy_jobs;
 mod file_jobs;
 mod jobs;
+pub mod whole;
 
 pub use blocking_core::io::Fault;
 pub use blocking_core::limit::DEFAULT_MAX_THREADS;
@@ -144,3 +145,11 @@ pub use jobs::Jobs;
 pub use jobs::Reader;
 pub use jobs::Unused;
 pub use jobs::Writer;
+pub use whole::call;
+pub use whole::call_over;
+pub use whole::copy;
+pub use whole::copy_over;
+pub use whole::read_all;
+pub use whole::read_all_over;
+pub use whole::write_all;
+pub use whole::write_all_over;
