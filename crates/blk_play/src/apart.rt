@@ -33,17 +33,21 @@ impl Setup {
         Player::new(stage, gates, patience, self.script.room)
     }
 
-    fn lines(&self, from: usize, to: usize) -> &[Numbered] {
-        self.script.lines.as_slice().get(from..to).unwrap_or(&[])
-    }
-
     // Plays the lines from one place to another, which stand in a thread, and keeps what they show.
     fn play_apart<S: Stage>(&self, stage: S, from: usize, to: usize) -> io::Result<Apart> {
         let mut player = self.player(stage)?;
         player.keep();
-        let _ = player.play(self.lines(from, to))?;
+        let _ = player.play(part(&self.script, from, to))?;
         player.drop_all();
         Ok(player.into_apart())
+    }
+}
+
+// The lines from one place to another.
+fn part(script: &Script, from: usize, to: usize) -> &[Numbered] {
+    match script.lines.as_slice().get(from..to) {
+        Some(lines) => lines,
+        None => &[],
     }
 }
 
@@ -114,15 +118,15 @@ impl<S: Stage + Send + 'static, R: Threads + Drop> Ensemble<S, R> {
     // Plays all lines.
     fn play(&mut self) -> io::Result<Flow> {
         let script = Arc::try_clone(&self.setup.script)?;
-        let lines = script.lines.as_slice();
+        let count = script.lines.len();
         let mut place = 0usize;
-        for _ in 0..lines.len() {
-            let next = next_of_threads(lines, place);
-            let flow = self.player.play(lines.get(place..next).unwrap_or(&[]))?;
+        for _ in 0..count {
+            let next = next_of_threads(script.lines.as_slice(), place);
+            let flow = self.player.play(part(&script, place, next))?;
             if flow != Flow::GoesOn {
                 return Ok(flow);
             }
-            if next >= lines.len() {
+            if next >= count {
                 break;
             }
             place = self.play_thread(next)?;

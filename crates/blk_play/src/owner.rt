@@ -386,7 +386,10 @@ impl<J: Carrier<H>, H: Runtime + Drop> Lending<J, H> {
         requires { F.IsAlwaysCallable met }
     {
         match std::mem::replace(self, Lending::Nothing) {
-            Lending::Owner(owner) if !owner.is_closed() => {
+            Lending::Owner(owner) => {
+                if owner.is_closed() {
+                    return false;
+                }
                 left(owner.into_inner(), task, patience, is_polled, met)
             }
             other => {
@@ -398,10 +401,16 @@ impl<J: Carrier<H>, H: Runtime + Drop> Lending<J, H> {
 
     // Polls for the handle, for good.
     fn take_back(&mut self, task: &MockTask) -> Poll<Reply> {
-        *self = match std::mem::replace(self, Lending::Nothing) {
-            Lending::Owner(owner) if !owner.is_closed() => Lending::Taking(owner.into_inner()),
-            other => other,
-        };
+        match std::mem::replace(self, Lending::Nothing) {
+            Lending::Owner(owner) => {
+                if owner.is_closed() {
+                    *self = Lending::Owner(owner);
+                    return Poll::Ready(Reply::Nothing);
+                }
+                *self = Lending::Taking(owner.into_inner());
+            }
+            other => *self = other,
+        }
         let Lending::Taking(taking) = self else {
             return Poll::Ready(Reply::Nothing);
         };

@@ -93,6 +93,10 @@ impl<J: Job, H: Runtime> Pool<J, H> {
     }
 }
 
+fn why_of_refused<B: Drop>(refused: Refused<B>) -> Refusal {
+    refused.why
+}
+
 // An owner as one that can't be closed, unless it is.
 fn opened<J: Job, H: Runtime>(lending: Lending<J, H>) -> Option<Opened<J, H>> {
     match lending {
@@ -169,14 +173,14 @@ impl<J: Carrier<H>, H: System> Stage for Pool<J, H> {
         let call = Scripted::new(self.rt, plan, track, gates, inside);
         Ok(match unblock_for(&self.executor, plan.client, call) {
             Ok(task) => Ok(Awaited::Task(task)),
-            Err(Refused { back: _, why }) => Err(why),
+            Err(refused) => Err(why_of_refused(refused)),
         })
     }
 
     fn add(&self, client: u32, job: Waiter) -> Result<JobNo, Refusal> {
         match self.executor.add_for(client, J::wrap(job)) {
             Ok(added) => Ok(added.number()),
-            Err(Refused { back: _, why }) => Err(why),
+            Err(refused) => Err(why_of_refused(refused)),
         }
     }
 

@@ -54,7 +54,10 @@ impl<H: Runtime + Drop> Awaits for Awaited<H> {
 
     fn cancel(&mut self) -> bool {
         match mem::replace(self, Awaited::Nobody) {
-            Awaited::Task(task) if !task.is_taken() => {
+            Awaited::Task(task) => {
+                if task.is_taken() {
+                    return false;
+                }
                 *self = Awaited::Cancel(task.cancel());
                 true
             }
