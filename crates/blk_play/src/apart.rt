@@ -71,11 +71,15 @@ struct Ensemble<S: Stage, R: Threads + Drop> {
 }
 
 impl<S: Stage + Send + 'static, R: Threads + Drop> Ensemble<S, R> {
+    ghost use Rattle.blk_play.specs.Lasting.{Lasts};
+
     // Begins a thread that plays the lines from one place to another.
     fn begin(&mut self, from: usize, to: usize) -> io::Result<()> {
         let setup = self.setup.another()?;
         let stage = self.player.stage.another()?;
-        let playing = move || -> io::Result<Apart> { setup.play_apart(stage, from, to) };
+        let playing = move || -> io::Result<Apart>
+            requires { Lasts S.row }
+        { setup.play_apart(stage, from, to) };
         self.threads.push(Some(thread::spawn(&self.rt, playing)?))?;
         self.player.stage.say("thread")
     }

@@ -28,12 +28,12 @@ impl Inside {
         }
     }
 
-    /// A limit is about to be set. Where calls are inside, the greater of both holds.
-    pub(crate) fn allow(&self, most: usize) {
-        if self.count.load(Ordering::SeqCst) > 0 {
-            self.most.fetch_max(most, Ordering::SeqCst);
-        } else {
+    /// A limit is about to be set. Unless the pool rests, the greater of both holds.
+    pub(crate) fn allow(&self, most: usize, is_at_rest: bool) {
+        if is_at_rest {
             self.most.store(most, Ordering::SeqCst);
+        } else {
+            self.most.fetch_max(most, Ordering::SeqCst);
         }
     }
 

@@ -430,7 +430,10 @@ fn counted_of(word: &str) -> Option<Counted> {
 
 fn read_soon_counts(alloc: Global, words: &mut Words<'_>) -> Read<Alone> {
     let mut wanted = Vec::new(alloc);
-    while let Some(counted) = words.peek().and_then(counted_of) {
+    for _ in 0..u64::MAX {
+        let Some(counted) = words.peek().and_then(counted_of) else {
+            break;
+        };
         words.word()?;
         wanted.push((counted, words.count()?))?;
     }
@@ -676,7 +679,10 @@ pub(crate) fn plan_of(alloc: Global, text: &str) -> Read<Plan> {
         return Err(LineFault::NotALine);
     }
     let mut plan = Plan::new(alloc, read_source(alloc, &mut words)?)?;
-    while let Some(name) = words.peek() {
+    for _ in 0..u64::MAX {
+        let Some(name) = words.peek() else {
+            break;
+        };
         words.word()?;
         match name {
             "by" => plan.by = words.count()?,

@@ -54,9 +54,9 @@ impl AllInside {
         }
     }
 
-    fn limit_each(&self, most: usize) {
+    fn limit_each(&self, most: usize, is_at_rest: bool) {
         for inside in self.each.iter() {
-            inside.allow(most);
+            inside.allow(most, is_at_rest);
         }
     }
 
@@ -205,7 +205,9 @@ impl<J: Carrier<H>, H: System> Stage for Pool<J, H> {
             return false;
         }
         let most = limit.unwrap_or(usize::MAX);
-        self.inside.limit_each(most);
+        let counts = self.executor.counts();
+        let is_at_rest = counts.queued == 0 && counts.running == 0;
+        self.inside.limit_each(most, is_at_rest);
         set_client_limit(&self.executor, limit);
         true
     }
