@@ -3,13 +3,11 @@ use crate::gates::Gates;
 use crate::line::{Block, Line};
 use crate::patience::Patience;
 use crate::player::{Apart, Flow, Player};
-use crate::pool::{Pool, System};
 use crate::script::{Numbered, Script};
 use crate::stage::Stage;
-use crate::work::Carrier;
 use std::sync::Arc;
 use std::sync::atomic::AtomicBool;
-use std::thread::JoinHandle;
+use std::thread::{JoinHandle, Threads};
 use std::{io, thread};
 
 /// What a script needs beside its stage.
@@ -61,14 +59,14 @@ fn next_of_threads(lines: &[Numbered], from: usize) -> usize {
 
 /// A player, and the threads that it began.
 #[derive(Drop)]
-struct Ensemble<J: Carrier<H>, H: System> {
-    rt: H,
+struct Ensemble<S: Stage, R: Threads + Drop> {
+    rt: R,
     setup: Setup,
-    player: Player<Pool<J, H>>,
+    player: Player<S>,
     threads: Vec<Option<JoinHandle<io::Result<Apart>>>>,
 }
 
-impl<J: Carrier<H> + Send + 'static, H: System> Ensemble<J, H> {
+impl<S: Stage + Send + 'static, R: Threads + Drop> Ensemble<S, R> {
     // Begins a thread that plays the lines from one place to another.
     fn begin(&mut self, from: usize, to: usize) -> io::Result<()> {
         let setup = self.setup.another()?;
@@ -146,17 +144,18 @@ impl<J: Carrier<H> + Send + 'static, H: System> Ensemble<J, H> {
 
 /// Plays a script over a pool, and says its status: 0; 3 where a law was broken, 4 where a machine was too slow, 5 where it didn't come to
 /// its end.
-pub(crate) fn play_script<J: Carrier<H> + Send + 'static, H: System>(
-    rt: H,
-    pool: Pool<J, H>,
+pub(crate) fn play_script<S: Stage + Send + 'static, R: Threads + Drop>(
+    rt: R,
+    stage: S,
     setup: Setup,
 ) -> io::Result<u8> {
-    let player = setup.player(pool)?;
+    let threads = Vec::new(stage.alloc());
+    let player = setup.player(stage)?;
     let mut ensemble = Ensemble {
         rt,
         setup,
         player,
-        threads: Vec::new(rt.alloc()),
+        threads,
     };
     let flow = ensemble.play()?;
     ensemble.join_all()?;

@@ -30,14 +30,26 @@ pub(crate) enum Shown {
 /// Where there is no such party, or it can't do that.
 pub(crate) const NOTHING: Shown = Shown::Word("nothing");
 
-#[derive(Drop)]
-struct Hex<'a>(&'a [u8]);
+// As many bytes as came, with a space before; nothing where they are more than are shown.
+#[derive(Clone, Copy)]
+struct Few {
+    count: u64,
+    bytes: [u8; SHOWN],
+}
 
-impl fmt::Display for Hex<'_> {
+impl fmt::Display for Few {
     fn fmt<W: fmt::Write>(&self, f: &mut fmt::Formatter<W>) -> fmt::Result {
-        for byte in self.0 {
-            let byte = *byte;
+        let mut left = self.count;
+        if left == 0 || left > SHOWN as u64 {
+            return Ok(());
+        }
+        f.write_str(" ")?;
+        for byte in self.bytes {
+            if left == 0 {
+                break;
+            }
             write!(f, "{byte:02x}")?;
+            left -= 1;
         }
         Ok(())
     }
@@ -125,11 +137,8 @@ impl fmt::Display for Shown {
             Shown::Waits | Shown::Gave(Gave::Waits) => f.write_str("waits"),
             Shown::Reply(reply) => write!(f, "replied {reply}"),
             Shown::Bytes(count, bytes) => {
-                let most = usize::try_from(count).unwrap_or(usize::MAX);
-                match bytes.get(..most) {
-                    Some(bytes) if count > 0 => { write!(f, "replied ok {count} {}", Hex(bytes)) }
-                    _ => write!(f, "replied ok {count}"),
-                }
+                let few = Few { count, bytes };
+                write!(f, "replied ok {count}{few}")
             }
             Shown::Gave(Gave::Number(number)) => write!(f, "got {number}"),
             Shown::Gave(Gave::Nothing) => f.write_str("got none"),
