@@ -1,23 +1,17 @@
 //! Sessions whose job is dropped beside its owner, which no pool does by itself: a job type of the test's own lets its job go.
-use crate::endless::{Begins, Endless, Owned, Pace, Starts, Tally, Touch, hold};
-use crate::reader::Given::{Bytes, Stops as Stop};
-use crate::reader::{Planned, Track};
-use crate::scene::Sight::Waits;
-use crate::scene::Step::{GoOn, Goes, Poll, PollReader, Rests, Stops, Wakes};
-use crate::scene::{Row, first_wrong_in, rests};
-use crate::writer::{Page, Plan, PlannedWriter, Taken};
-use crate::writes::{ALL, woken};
+use crate::endless::{Begins, Endless, Owned, Starts, Touch, hold, new_track};
+use crate::scene::wakes;
+use crate::visit::{LOOKS, Track};
 use blocking::{
     AsyncWrite, Executor, Host, ItemJob, OpJob, ReadJob, Runtime, SeekJob, Unblock, WriteJob,
 };
 use blocking_core::pool::{Carries, Job, JobNo, JobStep};
-use futures::task::Poll as Polled;
+use futures::task::Poll;
 use futures::test::MockTask;
-use std::io;
 use std::marker::PhantomData;
 use std::random::RandomSource;
-use std::sync::Arc;
 use std::test::Fail;
+use std::{io, thread};
 
 // After how many steps a job is dropped. One at whose end it waits isn't counted, since it looks again once it is woken.
 trait Steps {
@@ -96,78 +90,93 @@ impl<J: Job, S: Steps> Job for Cut<J, S> {
     }
 }
 
-const CUT: Row = Row {
-    name: "a job that is dropped wakes its owner",
-    capacity: 4,
-    plans: &[&[Stop, Bytes(b"ab")]],
-    steps: &[
-        (0, Poll(4, Waits)),
-        (0, Stops),
-        (0, PollReader(Waits)),
-        (0, GoOn),
-        (0, Goes),
-        (0, Wakes),
-        (0, Rests(1)),
-    ],
-};
+// Whether there comes to be one worker at most, who idles, and no job that is queued. (none is left of one that waited for half a second)
+fn rests<J: Job, H: Runtime>(pool: &Executor<J, H>) -> bool {
+    for _ in 0..LOOKS {
+        let counts = pool.counts();
+        if counts.queued == 0 && counts.idle == counts.workers && counts.workers <= 1 {
+            return true;
+        }
+        thread::yield_now();
+    }
+    false
+}
 
-fn first_wrong_of_cut<H: Host>(rt: H) -> io::Result<Option<usize>> {
-    let Ok(executor) = Executor::<Cut<ReadJob<Planned, H>, Two>, H>::new(rt, Some("1")) else {
-        return Err(io::Error::from(io::ErrorKind::Other));
-    };
-    first_wrong_in(executor, &CUT)
+// Whether an owner waits for its handle, whose job is dropped once that was called, and is woken then.
+fn wakes_for_handle<O: Starts>(owner: &mut O, mock: &mut MockTask, track: &Track) -> bool {
+    if !owner.begin(mock) || !track.stops() {
+        return false;
+    }
+    let waits = owner.waits_idle(mock);
+    track.go_on();
+    waits && track.goes() && wakes(mock)
+}
+
+type CutReader<H> = Cut<ReadJob<Endless<H>, H>, Two>;
+
+type Reading<K, H> = Owned<Endless<H>, ReadJob<Endless<H>, H>, K, H>;
+
+// The same of a reader's owner, and whether the worker goes on.
+fn reader_wakes<K: Job + Carries<ReadJob<Endless<H>, H>>, H: Runtime + RandomSource>(
+    rt: H,
+    pool: &Executor<K, H>,
+) -> io::Result<bool> {
+    let track = new_track(rt)?;
+    let mut mock = MockTask::new(&rt)?;
+    let mut owner: Reading<K, H> = hold(pool, Endless::new(rt, &track)?)?;
+    Ok(wakes_for_handle(&mut owner, &mut mock, &track) && rests(pool))
+}
+
+fn cut_reader_wakes<H: Host>(rt: H) -> io::Result<bool> {
+    match Executor::<CutReader<H>, H>::new(rt, Some("1")) {
+        Ok(pool) => reader_wakes(rt, &pool),
+        Err(_) => Err(io::Error::from(io::ErrorKind::Other)),
+    }
 }
 
 #[test]
 fn dropped_job_wakes_its_owner(rt: HostRuntime) -> Result<(), Fail> {
-    assert_eq!(rt; first_wrong_of_cut(rt)?, None);
+    assert!(rt; cut_reader_wakes(rt)?);
     Ok(())
 }
 
-type CutWriter<H> = Cut<WriteJob<PlannedWriter<H>, H>, Two>;
-
 // Whether an owner waits for its flush, while its writer stops, until its job is dropped.
-fn waits_for_the_drop<A: AsyncWrite>(owner: &mut A, mock: &mut MockTask, track: &Track) -> bool
+fn wakes_for_flush<A: AsyncWrite>(owner: &mut A, mock: &mut MockTask, track: &Track) -> bool
     requires { A.closed owner.old → ⊥ }
 {
     let wrote = mock.enter(|cx| owner.poll_write(cx, b"ab"));
-    if !matches!(wrote, Polled::Ready(Ok(2))) || !track.stops() {
+    if !matches!(wrote, Poll::Ready(Ok(2))) || !track.stops() {
         return false;
     }
     let flushed = mock.enter(|cx| owner.poll_flush(cx));
     track.go_on();
-    matches!(flushed, Polled::Pending) && track.goes() && woken(mock)
+    matches!(flushed, Poll::Pending) && track.goes() && wakes(mock)
 }
 
-// Whether the owner of a writing job that is dropped waits for its flush until then, and the worker goes on.
-fn waits_and_rests<J: Job + Carries<WriteJob<PlannedWriter<H>, H>>, H: Host>(
-    executor: &Executor<J, H>,
-    writer: PlannedWriter<H>,
-    mock: &mut MockTask,
-    track: &Track,
+type CutWriter<H> = Cut<WriteJob<Endless<H>, H>, Two>;
+
+// The same of a writer's owner, and whether the worker goes on.
+fn writer_wakes<K: Job + Carries<WriteJob<Endless<H>, H>>, H: Runtime + RandomSource>(
+    rt: H,
+    pool: &Executor<K, H>,
 ) -> io::Result<bool> {
-    let shared = executor.try_clone()?;
-    let mut owner = Unblock::<_, (), J, H>::with_capacity(4, shared, writer);
-    Ok(waits_for_the_drop(&mut owner, mock, track) && rests(executor, 1))
+    let track = new_track(rt)?;
+    let mut mock = MockTask::new(&rt)?;
+    let handle = Endless::new(rt, &track)?;
+    let mut owner = Unblock::<_, (), K, H>::with_capacity(4, pool.try_clone()?, handle);
+    Ok(wakes_for_flush(&mut owner, &mut mock, &track) && rests(pool))
 }
 
-fn wakes_its_owner<H: Host>(rt: H) -> io::Result<bool> {
-    let page = Arc::new(rt.alloc(), Page::new(rt.alloc()))?;
-    let plan = Plan {
-        writes: &[Taken::Stops],
-        ..ALL
-    };
-    let writer = PlannedWriter::new(rt, rt.alloc(), Arc::try_clone(&page)?, plan)?;
-    let mut mock = MockTask::new(&rt)?;
-    let Ok(executor) = Executor::<CutWriter<H>, H>::new(rt, Some("1")) else {
-        return Err(io::Error::from(io::ErrorKind::Other));
-    };
-    waits_and_rests(&executor, writer, &mut mock, &page.track)
+fn cut_writer_wakes<H: Host>(rt: H) -> io::Result<bool> {
+    match Executor::<CutWriter<H>, H>::new(rt, Some("1")) {
+        Ok(pool) => writer_wakes(rt, &pool),
+        Err(_) => Err(io::Error::from(io::ErrorKind::Other)),
+    }
 }
 
 #[test]
 fn dropped_writing_job_wakes_its_owner(rt: HostRuntime) -> Result<(), Fail> {
-    assert!(rt; wakes_its_owner(rt)?);
+    assert!(rt; cut_writer_wakes(rt)?);
     Ok(())
 }
 
@@ -176,17 +185,17 @@ fn dropped_writing_job_wakes_its_owner(rt: HostRuntime) -> Result<(), Fail> {
 fn is_told_of<O: Starts, H: Runtime + RandomSource>(
     rt: H,
     mut owner: O,
-    tally: &Tally,
+    track: &Track,
 ) -> io::Result<bool> {
     let mut mock = MockTask::new(&rt)?;
     let later = MockTask::new(&rt)?;
     let _ = owner.begin(&mut mock);
-    if !tally.track.stops() {
+    if !track.stops() {
         return Ok(false);
     }
     let waits = owner.waits_idle(&later);
-    tally.track.go_on();
-    Ok(waits && woken(&later) && tally.gone() == 1)
+    track.go_on();
+    Ok(waits && wakes(&later) && track.is_gone())
 }
 
 // The same in this pool, by the session of a job.
@@ -194,10 +203,9 @@ fn is_told_in<J: Begins<Endless<H>, H>, K: Job + Carries<J>, H: Runtime + Random
     rt: H,
     pool: &Executor<K, H>,
 ) -> io::Result<bool> {
-    let tally = Arc::new(rt.alloc(), Tally::new())?;
-    let handle = Endless::new(rt, &tally, Pace::Stops)?;
-    let owner: Owned<Endless<H>, J, K, H> = hold(pool, 4, handle)?;
-    is_told_of(rt, owner, &tally)
+    let track = new_track(rt)?;
+    let owner: Owned<Endless<H>, J, K, H> = hold(pool, Endless::new(rt, &track)?)?;
+    is_told_of(rt, owner, &track)
 }
 
 fn is_told_last<
