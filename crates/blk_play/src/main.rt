@@ -41,7 +41,7 @@ use crate::pool::{AllInside, Pool, System};
 use crate::script::{Script, read_script};
 use crate::stage::Stage;
 use crate::words::number_of;
-use crate::work::Work;
+use crate::work::{Carrier, Work};
 use blocking::Executor;
 use std::io::Read;
 use std::process::ExitCode;
@@ -126,20 +126,27 @@ fn play_over<S: Stage>(
     player.status(flow)
 }
 
-// Plays a script, and says its status.
-fn play<H: System>(rt: H, script: &Script, seconds: u64) -> io::Result<u8> {
-    let is_over = Arc::new(rt.alloc(), AtomicBool::new(false))?;
+// The same over a pool. (Of any job type: what is said of types made of types is long.)
+fn play_with<J: Carrier<H>, H: System>(
+    rt: H,
+    executor: Executor<J, H>,
+    script: &Script,
+    is_over: Arc<AtomicBool>,
+) -> io::Result<u8> {
     let gates = Gates::new(rt.alloc(), Arc::try_clone(&is_over)?)?;
     let gates = Arc::new(rt.alloc(), gates)?;
     let inside = Arc::new(rt.alloc(), AllInside::new(rt.alloc())?)?;
-    let patience = Patience::new(Arc::try_clone(&is_over)?);
+    let pool = Pool::new(rt, executor, Arc::try_clone(&gates)?, inside)?;
+    play_over(pool, script, gates, Patience::new(is_over))
+}
+
+// The same over a pool of the script's setting, for so many seconds at most.
+fn play<H: System>(rt: H, script: &Script, seconds: u64) -> io::Result<u8> {
+    let is_over = Arc::new(rt.alloc(), AtomicBool::new(false))?;
+    end_after(rt, Arc::try_clone(&is_over)?, seconds)?;
     let setting = script.setting.as_ref().map(|text| text.as_str());
-    end_after(rt, is_over, seconds)?;
     match Executor::<Work<H>, H>::new(rt, setting) {
-        Ok(executor) => {
-            let pool = Pool::new(rt, executor, Arc::try_clone(&gates)?, inside)?;
-            play_over(pool, script, gates, patience)
-        }
+        Ok(executor) => play_with(rt, executor, script, is_over),
         Err(_) => Ok(1),
     }
 }
