@@ -17,22 +17,9 @@ class Play:
         name, *lines = stored.splitlines()
         found = re.fullmatch(r"(.*?)(?: \[(\d)\])?", name)
         self.name, self.status = found[1], int(found[2] or 0)
-        self.text, self.shown = "", []
-        threads, depth = [], 0
-        for line in lines:
-            words, _, shown = line.partition(ARROW)
-            self.text += words + "\n"
-            depth += words == "thread" or depth > 0 and words.split(" ")[0] in ("tries", "repeat")
-            if words == "thread":
-                threads.append([])
-                self.shown.append("thread")
-            elif depth > 0 and words == "end":
-                depth -= 1
-                threads[-1] += [shown] if shown else []
-            elif words.startswith("join "):
-                self.shown += threads[int(words.split(" ")[1])]
-            elif shown:
-                (threads[-1] if depth else self.shown).append(shown)
+        pairs = [line.partition(ARROW) for line in lines]
+        self.text = "".join(f"{words}\n" for words, _, _ in pairs)
+        self.shown = [shown for _, _, shown in pairs if shown]
 
     def is_clocked(self):
         """Whether a line of it counts on a time by the clock."""

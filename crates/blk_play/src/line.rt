@@ -144,7 +144,6 @@ pub(crate) enum Block {
     Tries(u64),
     /// So many rounds, of which so many may last so many milliseconds; none begins behind so many.
     Repeat(u64, Option<(u64, u64)>, u64),
-    Thread,
 }
 
 /// A line.
@@ -158,8 +157,6 @@ pub(crate) enum Line {
     /// A block of so many lines, its end among them.
     Begin(Block, usize),
     End,
-    /// The output of the thread of this number is shown.
-    Join(usize),
 }
 
 fn read_parties(words: &mut Words<'_>) -> Read<Parties> {
@@ -543,7 +540,6 @@ fn read_block(name: &str, words: &mut Words<'_>) -> Read<Block> {
             };
             Block::Repeat(rounds, late, most)
         }
-        "thread" => Block::Thread,
         _ => return Err(LineFault::NotALine),
     })
 }
@@ -578,9 +574,8 @@ pub(crate) fn line_of(alloc: Global, text: &str) -> Read<Line> {
         "task" => Line::Task(read_parties(&mut words)?, read_task_line(&mut words)?),
         "job" => Line::Job(read_parties(&mut words)?, read_job_line(&mut words)?),
         "copy" => Line::Copier(read_parties(&mut words)?, read_copier_line(&mut words)?),
-        "tries" | "repeat" | "thread" => Line::Begin(read_block(name, &mut words)?, 0),
+        "tries" | "repeat" => Line::Begin(read_block(name, &mut words)?, 0),
         "end" => Line::End,
-        "join" => Line::Join(words.count()?),
         _ if is_for_owners(name) => {
             let owners = read_parties(&mut words)?;
             Line::Owner(owners, read_owner_line(alloc, name, &mut words)?)

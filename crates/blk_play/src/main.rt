@@ -7,7 +7,6 @@
 //! With `--seconds N` behind, a run ends after so many seconds at most.
 #![tactic(auto)]
 
-mod apart;
 mod call;
 mod called;
 mod check;
@@ -34,11 +33,13 @@ mod waiter;
 mod words;
 mod work;
 
-use crate::apart::{Setup, play_script};
 use crate::draw::draw;
 use crate::gates::Gates;
+use crate::patience::Patience;
+use crate::player::Player;
 use crate::pool::{AllInside, Pool, System};
-use crate::script::read_script;
+use crate::script::{Script, read_script};
+use crate::stage::Stage;
 use crate::words::number_of;
 use crate::work::Work;
 use blocking::Executor;
@@ -112,33 +113,45 @@ fn end_after<H: System>(rt: H, is_over: Arc<AtomicBool>, seconds: u64) -> io::Re
     Ok(())
 }
 
+// Plays a script over a stage, and says its status.
+fn play_over<S: Stage>(
+    stage: S,
+    script: &Script,
+    gates: Arc<Gates>,
+    patience: Patience,
+) -> io::Result<u8> {
+    let mut player = Player::new(stage, gates, patience, script.room)?;
+    let flow = player.play(script.lines.as_slice())?;
+    player.finish()?;
+    player.status(flow)
+}
+
 // Plays a script, and says its status.
-fn play<H: System>(rt: H, text: &str, seconds: u64) -> io::Result<u8> {
-    let script = match read_script(rt.alloc(), text) {
-        Ok(script) => script,
-        Err(line) => {
-            let told = format!(in rt.alloc(); "line {line}: not a step")?;
-            rt.println(told)?;
-            return Ok(2);
-        }
-    };
+fn play<H: System>(rt: H, script: &Script, seconds: u64) -> io::Result<u8> {
     let is_over = Arc::new(rt.alloc(), AtomicBool::new(false))?;
-    let gates = Arc::new(
-        rt.alloc(),
-        Gates::new(rt.alloc(), Arc::try_clone(&is_over)?)?,
-    )?;
+    let gates = Gates::new(rt.alloc(), Arc::try_clone(&is_over)?)?;
+    let gates = Arc::new(rt.alloc(), gates)?;
     let inside = Arc::new(rt.alloc(), AllInside::new(rt.alloc())?)?;
-    let script = Arc::new(rt.alloc(), script)?;
-    let setup = Setup {
-        script: Arc::try_clone(&script)?,
-        gates: Arc::try_clone(&gates)?,
-        is_over: Arc::try_clone(&is_over)?,
-    };
+    let patience = Patience::new(Arc::try_clone(&is_over)?);
     let setting = script.setting.as_ref().map(|text| text.as_str());
     end_after(rt, is_over, seconds)?;
     match Executor::<Work<H>, H>::new(rt, setting) {
-        Ok(executor) => play_script(rt, Pool::new(rt, executor, gates, inside)?, setup),
+        Ok(executor) => {
+            let pool = Pool::new(rt, executor, Arc::try_clone(&gates)?, inside)?;
+            play_over(pool, script, gates, patience)
+        }
         Err(_) => Ok(1),
+    }
+}
+
+// Reads a script and plays it. A line that isn't one is told.
+fn play_text<H: System>(rt: H, text: &str, seconds: u64) -> io::Result<u8> {
+    match read_script(rt.alloc(), text) {
+        Ok(script) => play(rt, &script, seconds),
+        Err(line) => {
+            println!(rt; "line {line}: not a step")?;
+            Ok(2)
+        }
     }
 }
 
@@ -170,5 +183,6 @@ fn main(rt: HostRuntime) -> io::Result<ExitCode> {
         print!(rt; "{text}")?;
         return Ok(ExitCode::SUCCESS);
     }
-    Ok(ExitCode::from(play(rt, text.as_str(), request.seconds)?))
+    let status = play_text(rt, text.as_str(), request.seconds)?;
+    Ok(ExitCode::from(status))
 }

@@ -69,13 +69,6 @@ struct Lent<O: Drop> {
     place: Option<usize>,
 }
 
-/// What a thread's lines showed, and the law that they broke.
-#[derive(Drop)]
-pub(crate) struct Apart {
-    pub text: String,
-    pub breach: Option<Breach>,
-}
-
 /// A player.
 #[derive(Drop)]
 pub(crate) struct Player<S: Stage> {
@@ -435,7 +428,7 @@ impl<S: Stage> Player<S> {
                 None => NOTHING,
             },
             Line::Alone(line) => self.alone(line)?,
-            Line::Begin(..) | Line::End | Line::Join(_) => NOTHING,
+            Line::Begin(..) | Line::End => NOTHING,
         })
     }
 
@@ -562,33 +555,8 @@ impl<S: Stage> Player<S> {
         }
     }
 
-    /// From now on what lines show is kept, as those of a thread.
-    pub(crate) fn keep(&mut self) {
-        self.kept = Some(String::new(self.desk.alloc));
-    }
-
-    /// What was kept, and the law that was broken.
-    pub(crate) fn into_apart(self) -> Apart {
-        let Player {
-            stage: _,
-            desk,
-            cast: _,
-            kept,
-            rounds: _,
-            is_too_slow: _,
-            clock: _,
-        } = self;
-        Apart {
-            text: match kept {
-                Some(text) => text,
-                None => String::new(desk.alloc),
-            },
-            breach: desk.breach,
-        }
-    }
-
-    /// Drops all parties.
-    pub(crate) fn drop_all(&mut self) {
+    // Drops all parties.
+    fn drop_all(&mut self) {
         for copied in self.cast.copiers.iter_mut() {
             copied.copier = None;
         }

@@ -250,10 +250,4 @@ impl<J: Carrier<H>, H: System> Stage for Pool<J, H> {
         let copier = Copier::new(self.rt.alloc(), reader, writer, piece)?;
         Ok(Some(Linked { copier }))
     }
-
-    fn another(&self) -> io::Result<Pool<J, H>> {
-        let executor = self.executor.try_clone()?;
-        let gates = Arc::try_clone(&self.gates)?;
-        Pool::new(self.rt, executor, gates, Arc::try_clone(&self.inside)?)
-    }
 }

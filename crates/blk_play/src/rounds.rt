@@ -60,7 +60,7 @@ impl<S: Stage> Round<S> {
     fn is_last_try(&self) -> bool {
         match self.block {
             Block::Tries(most) => self.done >= most,
-            Block::Repeat(..) | Block::Thread => true,
+            Block::Repeat(..) => true,
         }
     }
 }
@@ -179,7 +179,7 @@ impl<S: Stage> Player<S> {
         }
     }
 
-    /// Plays lines in which no thread begins.
+    /// Plays lines.
     pub(crate) fn play(&mut self, lines: &[Numbered]) -> io::Result<Flow> {
         let mut place = 0usize;
         for _ in 0..u64::MAX {

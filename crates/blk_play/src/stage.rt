@@ -262,9 +262,6 @@ pub(crate) trait Stage: Drop {
         writer: Self::Owner,
         piece: usize,
     ) -> io::Result<Option<Self::Copier>>;
-
-    /// The same pool, for another thread.
-    fn another(&self) -> io::Result<Self>;
 }
 
 /// What another job's track says.

@@ -12,6 +12,8 @@ mod copier;
 #[cfg(test)]
 mod copies;
 #[cfg(test)]
+mod counted;
+#[cfg(test)]
 mod cut;
 #[cfg(test)]
 mod endless;
