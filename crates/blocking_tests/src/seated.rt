@@ -11,7 +11,7 @@ use std::random::RandomSource;
 use std::sync::atomic::{AtomicUsize, Ordering};
 use std::sync::{Arc, Mutex, Wait};
 use std::test::Fail;
-use std::time::{Clock, Duration, Instant};
+use std::time::{Duration, Instant};
 use std::{io, thread};
 
 // What a test and its writer share: what was flushed, how many bytes were written, and where the writer is.
