@@ -36,13 +36,13 @@ mod work;
 use crate::draw::draw;
 use crate::gates::Gates;
 use crate::patience::Patience;
-use crate::player::Player;
-use crate::pool::{AllInside, Pool, System};
+use crate::player::Plays;
+use crate::pool::{AllInside, Pool, Watches};
 use crate::script::{Script, read_script};
-use crate::stage::Stage;
+use crate::threads::Process;
 use crate::words::number_of;
 use crate::work::{Carrier, Work};
-use blocking::Executor;
+use blocking::{Executor, Host};
 use std::io::Read;
 use std::process::ExitCode;
 use std::sync::Arc;
@@ -104,7 +104,7 @@ fn request_of(words: &[String]) -> Option<Request> {
 }
 
 // Sets the flag once a run's time is over.
-fn end_after<H: System>(rt: H, is_over: Arc<AtomicBool>, seconds: u64) -> io::Result<()> {
+fn end_after<H: Host>(rt: H, is_over: Arc<AtomicBool>, seconds: u64) -> io::Result<()> {
     let watch = move || -> () {
         thread::sleep(&rt, Duration::from_secs(seconds));
         is_over.store(true, Ordering::SeqCst);
@@ -113,22 +113,10 @@ fn end_after<H: System>(rt: H, is_over: Arc<AtomicBool>, seconds: u64) -> io::Re
     Ok(())
 }
 
-// Plays a script over a stage, and says its status.
-fn play_over<S: Stage>(
-    stage: S,
-    script: &Script,
-    gates: Arc<Gates>,
-    patience: Patience,
-) -> io::Result<u8> {
-    let mut player = Player::new(stage, gates, patience, script.room)?;
-    let flow = player.play(script.lines.as_slice())?;
-    player.finish()?;
-    player.status(flow)
-}
-
-// The same over a pool. (Of any job type: what is said of types made of types is long.)
-fn play_with<J: Carrier<H>, H: System>(
+// Plays a script over a pool, and says its status. (Of any job type: what is said of types made of types is long.)
+fn play_with<J: Carrier<H>, H: Host + Print, W: Watches>(
     rt: H,
+    watch: W,
     executor: Executor<J, H>,
     script: &Script,
     is_over: Arc<AtomicBool>,
@@ -136,25 +124,35 @@ fn play_with<J: Carrier<H>, H: System>(
     let gates = Gates::new(rt.alloc(), Arc::try_clone(&is_over)?)?;
     let gates = Arc::new(rt.alloc(), gates)?;
     let inside = Arc::new(rt.alloc(), AllInside::new(rt.alloc())?)?;
-    let pool = Pool::new(rt, executor, Arc::try_clone(&gates)?, inside)?;
-    play_over(pool, script, gates, Patience::new(is_over))
+    let pool = Pool::new(rt, watch, executor, Arc::try_clone(&gates)?, inside)?;
+    pool.play(script, gates, Patience::new(is_over))
 }
 
 // The same over a pool of the script's setting, for so many seconds at most.
-fn play<H: System>(rt: H, script: &Script, seconds: u64) -> io::Result<u8> {
+fn play<H: Host + Print, W: Watches>(
+    rt: H,
+    watch: W,
+    script: &Script,
+    seconds: u64,
+) -> io::Result<u8> {
     let is_over = Arc::new(rt.alloc(), AtomicBool::new(false))?;
     end_after(rt, Arc::try_clone(&is_over)?, seconds)?;
     let setting = script.setting.as_ref().map(|text| text.as_str());
     match Executor::<Work<H>, H>::new(rt, setting) {
-        Ok(executor) => play_with(rt, executor, script, is_over),
+        Ok(executor) => play_with(rt, watch, executor, script, is_over),
         Err(_) => Ok(1),
     }
 }
 
 // Reads a script and plays it. A line that isn't one is told.
-fn play_text<H: System>(rt: H, text: &str, seconds: u64) -> io::Result<u8> {
+fn play_text<H: Host + Print, W: Watches>(
+    rt: H,
+    watch: W,
+    text: &str,
+    seconds: u64,
+) -> io::Result<u8> {
     match read_script(rt.alloc(), text) {
-        Ok(script) => play(rt, &script, seconds),
+        Ok(script) => play(rt, watch, &script, seconds),
         Err(line) => {
             println!(rt; "line {line}: not a step")?;
             Ok(2)
@@ -163,7 +161,7 @@ fn play_text<H: System>(rt: H, text: &str, seconds: u64) -> io::Result<u8> {
 }
 
 // The text that is read, if it is one.
-fn read_text<R: Read + Drop, H: System>(rt: H, mut input: R) -> io::Result<Option<String>> {
+fn read_text<R: Read + Drop, H: Host>(rt: H, mut input: R) -> io::Result<Option<String>> {
     let mut bytes = Vec::new(rt.alloc());
     input.read_to_end(&mut bytes)?;
     Ok(String::from_utf8(bytes).ok())
@@ -190,6 +188,6 @@ fn main(rt: HostRuntime) -> io::Result<ExitCode> {
         print!(rt; "{text}")?;
         return Ok(ExitCode::SUCCESS);
     }
-    let status = play_text(rt, text.as_str(), request.seconds)?;
+    let status = play_text(rt, Process { rt }, text.as_str(), request.seconds)?;
     Ok(ExitCode::from(status))
 }

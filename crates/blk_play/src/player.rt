@@ -10,7 +10,7 @@ use crate::owned::Owned;
 use crate::patience::Patience;
 use crate::plan::Plan;
 use crate::rounds::Round;
-use crate::script::{Manner, Numbered};
+use crate::script::{Manner, Numbered, Script};
 use crate::shown::{Many, NOTHING, Shown};
 use crate::stage::{Gave, Owner, Reply, Stage, Standing, Terms, Why};
 use crate::track::Track;
@@ -667,4 +667,15 @@ fn are(standing: Standing, wanted: &[(Counted, usize)]) -> bool {
                 Counted::Queued => standing.queued,
             }
     })
+}
+
+/// A stage that a script is played on.
+pub(crate) trait Plays: Stage + Sized {
+    /// Plays a script, and says its status.
+    fn play(self, script: &Script, gates: Arc<Gates>, patience: Patience) -> io::Result<u8> {
+        let mut player = Player::new(self, gates, patience, script.room)?;
+        let flow = player.play(script.lines.as_slice())?;
+        player.finish()?;
+        player.status(flow)
+    }
 }

@@ -4,9 +4,9 @@ use crate::copying::Linked;
 use crate::gates::Gates;
 use crate::handle::Handle;
 use crate::owner::{Lending, Opened};
+use crate::player::Plays;
 use crate::stage::{Stage, Standing, Terms};
 use crate::tasks::Awaited;
-use crate::threads::{count_workers, used_nanos};
 use crate::waiter::Waiter;
 use crate::work::Carrier;
 use blocking::{
@@ -18,7 +18,6 @@ use blocking_core::pool::{JobNo, Refusal, Refused, WakeNote, Woke};
 use futures::test::MockTask;
 use std::alloc::Global;
 use std::fmt::Display;
-use std::fs::Files;
 use std::sync::Arc;
 use std::time::{Duration, Instant};
 use std::{io, thread};
@@ -26,10 +25,14 @@ use std::{io, thread};
 /// How many clients have a count of their own: those of the lowest numbers, from 1.
 const CLIENTS: usize = 16;
 
-/// What a player needs of the system.
-pub(crate) trait System: Host + Print + Files + Drop {}
+/// What is seen of this process from outside.
+pub(crate) trait Watches: Drop {
+    /// How many milliseconds it had of processors.
+    fn used_millis(&self) -> u64;
 
-impl<H: Host + Print + Files + Drop> System for H {}
+    /// How many threads have a worker's name, and whether one bears this number.
+    fn workers(&self, number: u64) -> io::Result<(usize, bool)>;
+}
 
 /// The counts of the calls that are inside.
 #[derive(Drop)]
@@ -67,24 +70,27 @@ impl AllInside {
 
 /// The pool.
 #[derive(Drop)]
-pub(crate) struct Pool<J: Job, H: Runtime> {
+pub(crate) struct Pool<J: Job, H: Runtime, W: Watches> {
     rt: H,
+    watch: W,
     executor: Executor<J, H>,
     gates: Arc<Gates>,
     inside: Arc<AllInside>,
     start: Instant,
 }
 
-impl<J: Job, H: Runtime> Pool<J, H> {
+impl<J: Job, H: Runtime, W: Watches> Pool<J, H, W> {
     pub(crate) fn new(
         rt: H,
+        watch: W,
         executor: Executor<J, H>,
         gates: Arc<Gates>,
         inside: Arc<AllInside>,
-    ) -> io::Result<Pool<J, H>> {
+    ) -> io::Result<Pool<J, H, W>> {
         let start = Instant::now(&rt)?;
         Ok(Pool {
             rt,
+            watch,
             executor,
             gates,
             inside,
@@ -106,7 +112,7 @@ fn opened<J: Job, H: Runtime>(lending: Lending<J, H>) -> Option<Opened<J, H>> {
     }
 }
 
-impl<J: Carrier<H>, H: System> Stage for Pool<J, H> {
+impl<J: Carrier<H>, H: Host + Print, W: Watches> Stage for Pool<J, H, W> {
     type Owner = Lending<J, H>;
 
     type Task = Awaited<H>;
@@ -137,11 +143,11 @@ impl<J: Carrier<H>, H: System> Stage for Pool<J, H> {
     }
 
     fn used_millis(&self) -> u64 {
-        used_nanos(&self.rt).unwrap_or(0) / 1_000_000
+        self.watch.used_millis()
     }
 
     fn workers(&self, number: u64) -> io::Result<(usize, bool)> {
-        count_workers(&self.rt, number)
+        self.watch.workers(number)
     }
 
     fn lend(&self, handle: Handle, terms: Terms) -> io::Result<Lending<J, H>> {
@@ -251,3 +257,5 @@ impl<J: Carrier<H>, H: System> Stage for Pool<J, H> {
         Ok(Some(Linked { copier }))
     }
 }
+
+impl<J: Carrier<H>, H: Host + Print, W: Watches> Plays for Pool<J, H, W> {}

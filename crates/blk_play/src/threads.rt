@@ -1,4 +1,5 @@
 //! The threads of this process, as the system tells of them.
+use crate::pool::Watches;
 use std::alloc::AllocGlobal;
 use std::fs::Files;
 use std::{fs, io};
@@ -28,8 +29,8 @@ fn worker_of(name: &str) -> Option<u64> {
     digits.parse::<u64>().ok()
 }
 
-/// How many threads have a worker's name, and whether one has this number.
-pub(crate) fn count_workers<R: Looks>(rt: &R, number: u64) -> io::Result<(usize, bool)> {
+// How many threads have a worker's name, and whether one has this number.
+fn count_workers<R: Looks>(rt: &R, number: u64) -> io::Result<(usize, bool)> {
     let (mut count, mut is_there) = (0usize, false);
     for name in told(rt, "comm")?.iter() {
         if name.as_str().starts_with(WORKER) {
@@ -40,8 +41,24 @@ pub(crate) fn count_workers<R: Looks>(rt: &R, number: u64) -> io::Result<(usize,
     Ok((count, is_there))
 }
 
-/// How long the threads had a processor, in nanoseconds. (One that ended in between isn't counted.)
-pub(crate) fn used_nanos<R: Looks>(rt: &R) -> io::Result<u64> {
+/// This process, as the system tells of it.
+#[derive(Drop)]
+pub(crate) struct Process<R: Looks> {
+    pub rt: R,
+}
+
+impl<R: Looks> Watches for Process<R> {
+    fn used_millis(&self) -> u64 {
+        used_nanos(&self.rt).unwrap_or(0) / 1_000_000
+    }
+
+    fn workers(&self, number: u64) -> io::Result<(usize, bool)> {
+        count_workers(&self.rt, number)
+    }
+}
+
+// How long the threads had a processor, in nanoseconds. (One that ended in between isn't counted.)
+fn used_nanos<R: Looks>(rt: &R) -> io::Result<u64> {
     let mut nanos = 0u64;
     for text in told(rt, "schedstat")?.iter() {
         let first = text.as_str().split_ascii_whitespace().next();
