@@ -169,7 +169,7 @@ def rows(files):
             for row in re.split(r"^==== ", text, flags=re.M)[1:]:
                 name, *lines = row.splitlines()
                 yield "rows", f"{path}: {name}", lines
-        elif re.match(r"crates/\w+/(args|stdin|stdout)$", path):
+        elif re.match(r"crates/\w+/(args|stdout)$", path):
             yield "rows", path, text.splitlines()
 
 

@@ -1,2 +1,1 @@
 pub mod JobSteps
-pub mod Wholes
