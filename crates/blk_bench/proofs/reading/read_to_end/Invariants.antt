@@ -1,5 +1,5 @@
 use Rattle.futures.specs.Task.{Keeps}
-use Rattle.blk_bench.proofs.reads.read_all.Given as goal
+use Rattle.blk_bench.proofs.reading.read_to_end.Given as goal
 
 abbrev pub invariant-loop : goal.invariant-loop
 invariant-loop g l = (g.A.AsyncRead.closed l.owner → ⊥) × Keeps l.initial.cx l.cx
