@@ -5,7 +5,7 @@ use crate::desk::Desk;
 use crate::line::{CopierLine, JobLine, TaskLine};
 use crate::patience::POLLS;
 use crate::shown::{NOTHING, Shown};
-use crate::stage::{Awaits, Copies, Copying, Gave, Stage};
+use crate::stage::{Awaits, Copies, Copying, Gave, Wakes};
 use crate::track::Track;
 use crate::waiter::JobTrack;
 use blocking_core::pool::{JobNo, Woke};
@@ -127,7 +127,7 @@ pub(crate) struct Waiting {
 
 impl Waiting {
     // Whether each of so many waits is answered by one wake.
-    fn is_woken_each<S: Stage>(&self, stage: &S, waits: u64, desk: &Desk) -> bool {
+    fn is_woken_each<S: Wakes>(&self, stage: &S, waits: u64, desk: &Desk) -> bool {
         for wait in 0..waits {
             let comes = desk.patience.until(|| self.track.steps() > wait);
             if !comes || stage.wake(self.number) == Woke::Nothing {
@@ -138,7 +138,7 @@ impl Waiting {
     }
 
     /// What a line shows.
-    pub(crate) fn play<S: Stage>(&self, stage: &S, line: JobLine, desk: &Desk) -> Shown {
+    pub(crate) fn play<S: Wakes>(&self, stage: &S, line: JobLine, desk: &Desk) -> Shown {
         let track = &*self.track;
         match line {
             JobLine::Wake => Shown::Woke(stage.wake(self.number)),

@@ -12,7 +12,7 @@ use crate::plan::Plan;
 use crate::rounds::Round;
 use crate::script::{Manner, Numbered, Script};
 use crate::shown::{Many, NOTHING, Shown};
-use crate::stage::{Gave, Owner, Reply, Stage, Standing, Terms, Why};
+use crate::stage::{Awaits, Copies, Gave, Owner, Reply, Stage, Standing, Terms, Why};
 use crate::track::Track;
 use crate::waiter::{JobPlan, JobTrack, Waiter};
 use blocking_core::pool::Refusal;
@@ -40,16 +40,16 @@ pub(crate) enum Flow {
 
 /// The parties of a script.
 #[derive(Drop)]
-pub(crate) struct Cast<S: Stage> {
+pub(crate) struct Cast<O: Owner, T: Awaits, C: Copies> {
     plans: Vec<Option<Plan>>,
-    owners: Vec<Owned<S::Owner>>,
-    calls: Vec<Called<S::Task>>,
+    owners: Vec<Owned<O>>,
+    calls: Vec<Called<T>>,
     jobs: Vec<Waiting>,
-    copiers: Vec<Copied<S::Copier>>,
+    copiers: Vec<Copied<C>>,
 }
 
-impl<S: Stage> Cast<S> {
-    pub(crate) fn new(alloc: Global) -> Cast<S> {
+impl<O: Owner, T: Awaits, C: Copies> Cast<O, T, C> {
+    pub(crate) fn new(alloc: Global) -> Cast<O, T, C> {
         Cast {
             plans: Vec::new(alloc),
             owners: Vec::new(alloc),
@@ -71,14 +71,14 @@ struct Lent<O: Drop> {
 
 /// A player.
 #[derive(Drop)]
-pub(crate) struct Player<S: Stage> {
+pub(crate) struct Player<O: Owner, T: Awaits, C: Copies, S: Stage<O, T, C>> {
     pub stage: S,
     pub desk: Desk,
-    pub cast: Cast<S>,
+    pub cast: Cast<O, T, C>,
     /// What lines of a block show; None where each line is written at once.
     pub kept: Option<String>,
     /// The blocks around the line that is played, the outermost first.
-    pub rounds: Vec<Round<S>>,
+    pub rounds: Vec<Round<O, T, C>>,
     /// Whether some tries were all too late.
     pub is_too_slow: bool,
     clock: u64,
@@ -95,14 +95,14 @@ fn plan_for(alloc: Global, plans: &mut [Option<Plan>], number: usize) -> io::Res
     }
 }
 
-impl<S: Stage> Player<S> {
+impl<O: Owner, T: Awaits, C: Copies, S: Stage<O, T, C>> Player<O, T, C, S> {
     /// A player with no parties yet.
     pub(crate) fn new(
         stage: S,
         gates: Arc<Gates>,
         patience: Patience,
         room: usize,
-    ) -> io::Result<Player<S>> {
+    ) -> io::Result<Player<O, T, C, S>> {
         let alloc = stage.alloc();
         let mut wakers = Vec::new(alloc);
         for _ in 0..WAKERS {
@@ -218,7 +218,7 @@ impl<S: Stage> Player<S> {
     }
 
     // Takes an owner from its place, for a copier.
-    fn lent(&mut self, number: usize, is_reader: bool) -> io::Result<Option<Lent<S::Owner>>> {
+    fn lent(&mut self, number: usize, is_reader: bool) -> io::Result<Option<Lent<O>>> {
         let Some(owned) = self.cast.owners.get_mut(number) else {
             return Ok(None);
         };
@@ -670,7 +670,7 @@ fn are(standing: Standing, wanted: &[(Counted, usize)]) -> bool {
 }
 
 /// A stage that a script is played on.
-pub(crate) trait Plays: Stage + Sized {
+pub(crate) trait Plays<O: Owner, T: Awaits, C: Copies>: Stage<O, T, C> + Sized {
     /// Plays a script, and says its status.
     fn play(self, script: &Script, gates: Arc<Gates>, patience: Patience) -> io::Result<u8> {
         let mut player = Player::new(self, gates, patience, script.room)?;

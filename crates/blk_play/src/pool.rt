@@ -5,7 +5,7 @@ use crate::gates::Gates;
 use crate::handle::Handle;
 use crate::owner::{Lending, Opened};
 use crate::player::Plays;
-use crate::stage::{Stage, Standing, Terms};
+use crate::stage::{Stage, Standing, Terms, Wakes};
 use crate::tasks::Awaited;
 use crate::waiter::Waiter;
 use crate::work::Carrier;
@@ -112,13 +112,14 @@ fn opened<J: Job, H: Runtime>(lending: Lending<J, H>) -> Option<Opened<J, H>> {
     }
 }
 
-impl<J: Carrier<H>, H: Host + Print, W: Watches> Stage for Pool<J, H, W> {
-    type Owner = Lending<J, H>;
+impl<J: Carrier<H>, H: Host + Print, W: Watches> Wakes for Pool<J, H, W> {
+    fn wake(&self, job: JobNo) -> Woke {
+        self.executor.wake(WakeNote::new(job))
+    }
+}
 
-    type Task = Awaited<H>;
-
-    type Copier = Linked<J, H>;
-
+impl<J: Carrier<H>, H: Host + Print, W: Watches> Stage<Lending<J, H>, Awaited<H>, Linked<J, H>>
+    for Pool<J, H, W> {
     fn alloc(&self) -> Global {
         self.rt.alloc()
     }
@@ -127,7 +128,7 @@ impl<J: Carrier<H>, H: Host + Print, W: Watches> Stage for Pool<J, H, W> {
         MockTask::new(&self.rt)
     }
 
-    fn say<T: Display + Drop>(&self, line: T) -> io::Result<()> {
+    fn say<L: Display + Drop>(&self, line: L) -> io::Result<()> {
         self.rt.println(line)
     }
 
@@ -188,10 +189,6 @@ impl<J: Carrier<H>, H: Host + Print, W: Watches> Stage for Pool<J, H, W> {
             Ok(added) => Ok(added.number()),
             Err(refused) => Err(why_of_refused(refused)),
         }
-    }
-
-    fn wake(&self, job: JobNo) -> Woke {
-        self.executor.wake(WakeNote::new(job))
     }
 
     fn sweep(&self) -> usize {
@@ -258,4 +255,5 @@ impl<J: Carrier<H>, H: Host + Print, W: Watches> Stage for Pool<J, H, W> {
     }
 }
 
-impl<J: Carrier<H>, H: Host + Print, W: Watches> Plays for Pool<J, H, W> {}
+impl<J: Carrier<H>, H: Host + Print, W: Watches> Plays<Lending<J, H>, Awaited<H>, Linked<J, H>>
+    for Pool<J, H, W> {}

@@ -3,13 +3,13 @@ use crate::line::{Block, Line};
 use crate::player::{Cast, Flow, Player};
 use crate::script::Numbered;
 use crate::shown::Shown;
-use crate::stage::Stage;
+use crate::stage::{Awaits, Copies, Owner, Stage};
 use std::fmt::Write;
 use std::{io, mem};
 
 /// A block that is played, and what was there before.
 #[derive(Drop)]
-pub(crate) struct Round<S: Stage> {
+pub(crate) struct Round<O: Owner, T: Awaits, C: Copies> {
     block: Block,
     // The place of its first line.
     first: usize,
@@ -19,7 +19,7 @@ pub(crate) struct Round<S: Stage> {
     // When the first and this one began.
     begun: u64,
     start: u64,
-    cast: Cast<S>,
+    cast: Cast<O, T, C>,
     kept: Option<String>,
 }
 
@@ -32,7 +32,7 @@ enum Next {
     TooLate(Shown),
 }
 
-impl<S: Stage> Round<S> {
+impl<O: Owner, T: Awaits, C: Copies> Round<O, T, C> {
     // Counts a round that is over at this time.
     fn count(&mut self, now: u64) -> Next {
         let lasted = now.saturating_sub(self.start);
@@ -65,7 +65,7 @@ impl<S: Stage> Round<S> {
     }
 }
 
-impl<S: Stage> Player<S> {
+impl<O: Owner, T: Awaits, C: Copies, S: Stage<O, T, C>> Player<O, T, C, S> {
     // Begins a block, with fresh parties.
     fn begin(&mut self, block: Block, first: usize) -> io::Result<()> {
         let alloc = self.desk.alloc;

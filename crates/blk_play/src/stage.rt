@@ -200,21 +200,22 @@ pub(crate) struct Terms {
     pub can_close: bool,
 }
 
+/// What wakes jobs that wait.
+pub(crate) trait Wakes: Drop {
+    fn wake(&self, job: JobNo) -> Woke;
+}
+
 /// A pool, and what else of the system a script needs.
-pub(crate) trait Stage: Drop {
-    type Owner: Owner;
-
-    type Task: Awaits;
-
-    type Copier: Copies;
-
+///
+/// It lends by owners `O`, makes calls with tasks `T` and copiers `C`. (Parameters, since associated types are compared at each use.)
+pub(crate) trait Stage<O: Owner, T: Awaits, C: Copies>: Wakes {
     fn alloc(&self) -> Global;
 
     /// A task to poll by.
     fn waker(&self) -> io::Result<MockTask>;
 
     /// Writes a line.
-    fn say<T: Display + Drop>(&self, line: T) -> io::Result<()>;
+    fn say<L: Display + Drop>(&self, line: L) -> io::Result<()>;
 
     /// Milliseconds since some time.
     fn millis(&self) -> u64;
@@ -227,17 +228,11 @@ pub(crate) trait Stage: Drop {
     /// How many threads have a worker's name, and whether one bears this number.
     fn workers(&self, number: u64) -> io::Result<(usize, bool)>;
 
-    fn lend(&self, handle: Handle, terms: Terms) -> io::Result<Self::Owner>;
+    fn lend(&self, handle: Handle, terms: Terms) -> io::Result<O>;
 
-    fn call(
-        &self,
-        plan: CallPlan,
-        track: Arc<CallTrack>,
-    ) -> io::Result<Result<Self::Task, Refusal>>;
+    fn call(&self, plan: CallPlan, track: Arc<CallTrack>) -> io::Result<Result<T, Refusal>>;
 
     fn add(&self, client: u32, job: Waiter) -> Result<JobNo, Refusal>;
-
-    fn wake(&self, job: JobNo) -> Woke;
 
     fn sweep(&self) -> usize;
 
@@ -256,12 +251,7 @@ pub(crate) trait Stage: Drop {
     fn most_inside(&self, client: u32) -> usize;
 
     /// A copier that reads at most so many bytes at once; None where an owner is closed, or there are to be none.
-    fn link(
-        &self,
-        reader: Self::Owner,
-        writer: Self::Owner,
-        piece: usize,
-    ) -> io::Result<Option<Self::Copier>>;
+    fn link(&self, reader: O, writer: O, piece: usize) -> io::Result<Option<C>>;
 }
 
 /// What another job's track says.
