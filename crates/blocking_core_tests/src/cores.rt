@@ -27,7 +27,7 @@ const CALLS: &[Row<Answer, Action>] = &[
         ],
     },
     Row {
-        name: "where nobody waits nobody is woken",
+        name: "no waiter, no wake",
         answers: &[
             (Answer::Returned, Action::Finish),
             (Answer::Put { woke: false }, Action::Done),
@@ -68,7 +68,7 @@ const ITEMS: &[Row<ItemAnswer, ItemAction>] = &[
         ],
     },
     Row {
-        name: "where nobody wants more the end is closed, and each waker is called",
+        name: "a dropped owner closes the end and calls each waker",
         answers: &[
             (ItemAnswer::Gave, ItemAction::Send),
             (ItemAnswer::Shut, ItemAction::Close),
@@ -204,7 +204,7 @@ const WRITING: &[(WriteAnswer<u8>, WriteAction)] = &[
     (WriteAnswer::Peeked(1), WriteAction::Done),
 ];
 
-// What an owner is told whose session is refused.
+// The reply of an owner whose session the pool refuses.
 const REFUSED: &[(PollCall, Refusal, Reply<u8>)] = &[
     (
         PollCall::Read(2),

@@ -97,7 +97,7 @@ const STEPS: &[(Whose, PlainStep, &str)] = &[
     (Pool, Own(0), "nothing"),
 ];
 
-// What is seen of them, all taken at once.
+// The events of all steps.
 fn seen(alloc: Global) -> Result<Vec<Event>, AllocError> {
     let mut steps = Vec::new(alloc);
     for (_, step, _) in STEPS {
@@ -140,7 +140,7 @@ fn all_see_their_own(alloc: Global) -> Result<bool, AllocError> {
     Ok(true)
 }
 
-// (where a piece of memory is refused, the next try has it)
+// A refused allocation succeeds at the next try.
 #[test]
 fn each_owner_sees_what_it_sees_alone(rt: HostRuntime) -> Result<(), Fail> {
     let is_right = match all_see_their_own(rt.alloc()) {

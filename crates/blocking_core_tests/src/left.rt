@@ -853,7 +853,7 @@ fn all_go(rt: &HostRuntime, sessions: &[Session]) -> Result<(), Fail> {
     Ok(())
 }
 
-// (tests of their own, since all together would take most of the time that a test has)
+// One test would use up most of a test's time limit.
 #[test]
 fn calls_follow_behind_reads_writes_and_items(rt: HostRuntime) -> Result<(), Fail> {
     all_go(&rt, READS_WRITES_AND_ITEMS)
