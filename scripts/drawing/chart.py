@@ -112,7 +112,8 @@ class Chart:
 
     def __init__(self, story, title):
         self.story = story
-        self.svg = Svg(title, f"A run of blk steps: {len(story.steps)} lines of its script, {story.columns} events.")
+        what = "A trace that is refused" if story.is_refused else "A run of blk steps"
+        self.svg = Svg(title, f"{what}: {len(story.steps)} lines of its script, {story.columns} events.")
         self.title = title
         self.lanes = {lane.key: lane for lane in lanes_of(story)}
         self.groups = self.grouped()
@@ -184,6 +185,9 @@ class Chart:
             hint = f"line {step.number}: {step.text}"
             size = {"width": self.column * count, "height": self.bottom - self.top + 8}
             self.svg.add("rect", None, hint, x=left, y=self.top - 8, fill=fill, **size)
+        if self.story.is_refused:
+            outline = {"fill": "#fbe0dc", "stroke": "#b00020", "stroke_width": 1.2}
+            self.svg.add("rect", x=left + 1, y=self.top - 8, width=self.column - 2, height=size["height"], **outline)
 
     def draw_sides(self):
         """The names of lanes and tracks, and lines between lanes."""
@@ -315,7 +319,8 @@ class Chart:
             self.svg.line((left, y - 4), (left, y), (right, y), (right, y - 4), stroke="#5b6770", stroke_width=1)
             self.svg.text((left + right) / 2 - 2, y + 11, short(step.text), size=CODE_SIZE, is_code=True, turned=SLANT)
         end = y + 14 + max(slanted(step.text) for step, _, _ in self.groups)
-        self.svg.text(MARGIN, end + 10, self.story.last, size=CODE_SIZE, is_code=True, fill="#555")
+        ink = "#b00020" if self.story.is_refused else "#555"
+        self.svg.text(MARGIN, end + 10, self.story.last, size=CODE_SIZE, is_code=True, fill=ink)
         return end + 30
 
     def draw_legend(self, y):

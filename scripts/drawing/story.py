@@ -180,11 +180,12 @@ class Job:
 
 @dataclass
 class Story:
-    """All that there is to be drawn of a run."""
+    """All that there is to be drawn of a run; `is_refused` says that its last event must not come."""
 
     heading: list
     steps: list
     last: str = ""
+    is_refused: bool = False
     marks: list = field(default_factory=list)
     bars: list = field(default_factory=list)
     wakes: list = field(default_factory=list)

@@ -15,6 +15,8 @@ TOP = Path(__file__).resolve().parent.parent.parent
 LISTS = "items definitions laws theorems edits tests rows".split()
 OF_ITEMS = "fn struct enum trait type const use".split()
 FOLDERS = "must-fail more-edits must-not-compile".split()
+# The crates of theorems alone.
+OF_THEOREMS = ("blocking_world_law_tests", "blocking_headline")
 # The sections of docs/LAWS.md whose tables name laws.
 TABLES = ("The headline", "Index")
 DEFINED = re.compile(r"(?:abbrev (?:pub )?|pub \w+ |data |record )(\S+)|infix")
@@ -99,10 +101,10 @@ def sources(files):
         if re.match(r"crates/\w+/src/.*\.rt$", path):
             module, parts = module_of(path), list(parts_of(text.splitlines()))
             crate = module.split("::")[0]
-            if crate.endswith("_tests") and crate != "blocking_world_law_tests":
+            if crate.endswith("_tests") and crate not in OF_THEOREMS:
                 yield from (("tests", *test) for test in tests_of(module, parts))
             else:
-                of = "theorems" if crate == "blocking_world_law_tests" else "items"
+                of = "theorems" if crate in OF_THEOREMS else "items"
                 yield from ((of, *item) for item in items_of(module, parts))
 
 
@@ -169,7 +171,7 @@ def rows(files):
             for row in re.split(r"^==== ", text, flags=re.M)[1:]:
                 name, *lines = row.splitlines()
                 yield "rows", f"{path}: {name}", lines
-        elif re.match(r"crates/\w+/(args|stdout)$", path):
+        elif re.match(r"crates/\w+/(args|stdin|stdout)$", path):
             yield "rows", path, text.splitlines()
 
 

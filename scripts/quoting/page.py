@@ -16,6 +16,7 @@ GROUPS = {
         "writes": "AsyncWriteExt AsyncWrite WriteSome WriteAll Flush Close",
         "seeks": "AsyncSeekExt AsyncSeek SeekTo",
         "copies": "Copier CopyFault",
+        "whole": "copy copy_over read_all read_all_over write_all write_all_over call call_over",
         "job types": "Jobs FileJobs CallFileJobs CopyJobs Unused Carries ReadJob WriteJob ItemJob SeekJob OpJob",
         "pipes": "link link_over link_in link_in_over link_drain link_items unlink_in unlink_drain PieceMemory PlaceRule AnyPlace"
         " SendEnd RecvEnd DrainEnd FillEnd PeekEnd ItemSendEnd ItemSending WhyUnsent JobSeated SeenShut ItemRecvEnd Closed ToldEnd SeenEnd OwnerWaker"

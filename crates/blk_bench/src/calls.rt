@@ -114,12 +114,24 @@ impl Calls {
         request: Request,
         figures: &mut Figures,
     ) -> io::Result<()> {
-        let Ok(executor) = Executor::new(host, setting) else {
-            return Err(failed());
-        };
-        let held_up = self.prepare(rt, host, &executor)?;
+        match Executor::new(host, setting) {
+            Ok(executor) => self.run_over(rt, host, &executor, request, figures),
+            Err(_) => Err(failed()),
+        }
+    }
+
+    // Runs the benchmark over an existing pool.
+    fn run_over<R: Host>(
+        self,
+        rt: HostRuntime,
+        host: R,
+        executor: &Workers<R>,
+        request: Request,
+        figures: &mut Figures,
+    ) -> io::Result<()> {
+        let held_up = self.prepare(rt, host, executor)?;
         for rep in 0..=request.reps {
-            let figure = self.once(rt, host, &executor, request.size, figures)?;
+            let figure = self.once(rt, host, executor, request.size, figures)?;
             figures.note(rep, figure)?;
         }
         if let Some(held_up) = held_up {

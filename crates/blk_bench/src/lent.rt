@@ -1,7 +1,10 @@
 //! The benchmarks of iterators that are streams, of seeks, and of operations on a lent handle.
+ghost use Rattle.std.specs.Prelude.{◌<◌};
+
 use crate::figures::{Figures, Request, each};
 use crate::pipe::failed;
 use blocking::{AsyncSeek, Executor, Host, ItemJob, OpJob, Runtime, SeekJob, Unblock};
+use blocking_core::pipe::DEFAULT_ITEMS;
 use blocking_core::pool::{Carries, Job, Refusal};
 use blocking_core::task::CallOn;
 use futures::executor::{block_on, block_on_queue};
@@ -9,6 +12,7 @@ use futures::task::{Context, Doorbell, Poll, Queue};
 use futures::{Future, Stream};
 use std::io;
 use std::io::{Cursor, SeekFrom};
+use std::random::RandomSource;
 use std::sync::Wait;
 use std::time::Instant;
 
@@ -59,11 +63,13 @@ impl Lent {
         }
     }
 
-    // How many items the pipe of a stream holds. (none is the default)
-    fn capacity(self) -> Option<usize> {
+    // How many items the pipe of a stream holds.
+    fn capacity(self) -> usize
+        ensures { 0 < result }
+    {
         match self {
-            Lent::ShortBy100 | Lent::LongBy100 => Some(100),
-            _ => None,
+            Lent::ShortBy100 | Lent::LongBy100 => 100,
+            _ => DEFAULT_ITEMS,
         }
     }
 
@@ -134,51 +140,71 @@ impl<S: Stream<Item = Result<u64, Refusal>>, R: Runtime> Future for Streaming<S,
     }
 }
 
-type Numbered<R> = ItemJob<Numbers, u64, R>;
-
 fn stream_all<R: Host>(
     rt: HostRuntime,
     host: R,
-    capacity: Option<usize>,
+    capacity: usize,
     request: Request,
     figures: &mut Figures,
-) -> io::Result<()> {
-    let Ok(executor) = Executor::<Numbered<R>, R>::new(host, None) else {
-        return Err(failed());
-    };
+) -> io::Result<()>
+    requires { 0 < capacity }
+{
+    match Executor::<ItemJob<Numbers, u64, R>, R>::new(host, None) {
+        Ok(executor) => stream_over(rt, &executor, capacity, request, figures),
+        Err(_) => Err(failed()),
+    }
+}
+
+fn stream_over<J, R>(
+    rt: HostRuntime,
+    executor: &Executor<J, R>,
+    capacity: usize,
+    request: Request,
+    figures: &mut Figures,
+) -> io::Result<()>
+where
+    J: Job + Carries<ItemJob<Numbers, u64, R>>,
+    R: Runtime + RandomSource,
+    requires { 0 < capacity }
+{
     for rep in 0..=request.reps {
-        let figure = stream_once(rt, host, &executor, capacity, request.size)?;
+        let figure = stream_once(rt, executor, capacity, request.size)?;
         figures.note(rep, figure)?;
     }
     Ok(())
 }
 
 // One session, in ns an item.
-fn stream_once<R: Host>(
+fn stream_once<J, R>(
     rt: HostRuntime,
-    host: R,
-    executor: &Executor<Numbered<R>, R>,
-    capacity: Option<usize>,
+    executor: &Executor<J, R>,
+    capacity: usize,
     size: usize,
-) -> io::Result<u64> {
+) -> io::Result<u64>
+where
+    J: Job + Carries<ItemJob<Numbers, u64, R>>,
+    R: Runtime + RandomSource,
+    requires { 0 < capacity }
+{
     let end = size as u64;
     let start = Instant::now(&rt)?;
-    let executor = executor.try_clone()?;
     let numbers = Numbers { next: 0, end };
-    let items = match capacity {
-        Some(capacity) if capacity > 0 => Unblock::with_capacity(capacity, executor, numbers),
-        _ => Unblock::new(executor, numbers),
-    };
-    let streaming = Streaming {
-        rt: host,
-        items,
-        came: 0,
-    };
-    let came = block_on(&host, streaming)?;
-    if came != Some(end) {
+    let items = Unblock::with_capacity(capacity, executor.try_clone()?, numbers);
+    if came_of(executor.runtime(), items)? != Some(end) {
         return Err(failed());
     }
     Ok(each(start.elapsed(&rt)?.as_nanos(), size))
+}
+
+// Counts the items of any stream.
+fn came_of<S, R>(rt: R, items: S) -> io::Result<Option<u64>>
+where
+    S: Stream<Item = Result<u64, Refusal>>,
+    R: Runtime + RandomSource,
+    requires { S.can_poll items }
+{
+    let streaming = Streaming { rt, items, came: 0 };
+    block_on(&rt, streaming)
 }
 
 // Seeks so many positions, one after another, and gives how many were made and right.
@@ -214,45 +240,64 @@ impl<A: AsyncSeek + Drop, R: Runtime> Future for Seeking<A, R> {
     }
 }
 
-type Sought<R> = SeekJob<Cursor<Vec<u8>>, R>;
-
 fn seek_all<R: Host>(
     rt: HostRuntime,
     host: R,
     request: Request,
     figures: &mut Figures,
 ) -> io::Result<()> {
-    let Ok(executor) = Executor::<Sought<R>, R>::new(host, None) else {
-        return Err(failed());
-    };
+    match Executor::<SeekJob<Cursor<Vec<u8>>, R>, R>::new(host, None) {
+        Ok(executor) => seek_over(rt, &executor, request, figures),
+        Err(_) => Err(failed()),
+    }
+}
+
+fn seek_over<J, R>(
+    rt: HostRuntime,
+    executor: &Executor<J, R>,
+    request: Request,
+    figures: &mut Figures,
+) -> io::Result<()>
+where
+    J: Job + Carries<SeekJob<Cursor<Vec<u8>>, R>>,
+    R: Runtime + RandomSource,
+{
     for rep in 0..=request.reps {
-        let figure = seek_once(rt, host, &executor, request.size)?;
+        let figure = seek_once(rt, executor, request.size)?;
         figures.note(rep, figure)?;
     }
     Ok(())
 }
 
 // All seeks of one owner, in ns each.
-fn seek_once<R: Host>(
-    rt: HostRuntime,
-    host: R,
-    executor: &Executor<Sought<R>, R>,
-    size: usize,
-) -> io::Result<u64> {
+fn seek_once<J, R>(rt: HostRuntime, executor: &Executor<J, R>, size: usize) -> io::Result<u64>
+where
+    J: Job + Carries<SeekJob<Cursor<Vec<u8>>, R>>,
+    R: Runtime + RandomSource,
+{
     let bytes = vec![in rt.alloc(); 0u8; BYTES]?;
     let start = Instant::now(&rt)?;
-    let executor = executor.try_clone()?;
-    let seeking = Seeking {
-        rt: host,
-        owner: Unblock::<_, (), _, R>::new(executor, Cursor::new(bytes)),
-        made: 0,
-        size: size as u64,
-    };
-    let made = block_on(&host, seeking)?;
-    if made != size as u64 {
+    let owner = Unblock::<_, (), _, R>::new(executor.try_clone()?, Cursor::new(bytes));
+    if made_by(executor.runtime(), owner, size as u64)? != size as u64 {
         return Err(failed());
     }
     Ok(each(start.elapsed(&rt)?.as_nanos(), size))
+}
+
+// Counts the seeks that any owner answers rightly.
+fn made_by<A, R>(rt: R, owner: A, size: u64) -> io::Result<u64>
+where
+    A: AsyncSeek + Drop,
+    R: Runtime + RandomSource,
+    requires { A.closed owner → ⊥ }
+{
+    let seeking = Seeking {
+        rt,
+        owner,
+        made: 0,
+        size,
+    };
+    block_on(&rt, seeking)
 }
 
 // Adds to a number, and gives the sum.
@@ -271,11 +316,19 @@ impl CallOn<u64> for Add {
 }
 
 // Whether so many operations give the numbers from 1 on, each made after the one before gave its own.
-fn operate<J: Job + Carries<OpJob<Add, u64, R>>, R: Host>(
-    host: R,
-    owner: &mut Unblock<u64, (), J, R>,
-    size: u64,
-) -> io::Result<bool> {
+fn operate<J, R>(host: R, mut owner: Unblock<u64, (), J, R>, size: u64) -> io::Result<bool>
+where
+    J: Job + Carries<OpJob<Add, u64, R>>,
+    R: Runtime + RandomSource,
+{
+    operate_by(host, &mut owner, size)
+}
+
+fn operate_by<J, R>(host: R, owner: &mut Unblock<u64, (), J, R>, size: u64) -> io::Result<bool>
+where
+    J: Job + Carries<OpJob<Add, u64, R>>,
+    R: Runtime + RandomSource,
+{
     let queue = Queue::new(&host, Doorbell::parking())?;
     let _hold = queue.hold()?;
     for made in 0..size {
@@ -296,30 +349,39 @@ fn operate_all<R: Host>(
     request: Request,
     figures: &mut Figures,
 ) -> io::Result<()> {
-    let Ok(executor) = Executor::<OpJob<Add, u64, R>, R>::new(host, None) else {
-        return Err(failed());
-    };
+    match Executor::<OpJob<Add, u64, R>, R>::new(host, None) {
+        Ok(executor) => operate_over(rt, &executor, request, figures),
+        Err(_) => Err(failed()),
+    }
+}
+
+fn operate_over<J, R>(
+    rt: HostRuntime,
+    executor: &Executor<J, R>,
+    request: Request,
+    figures: &mut Figures,
+) -> io::Result<()>
+where
+    J: Job + Carries<OpJob<Add, u64, R>>,
+    R: Runtime + RandomSource,
+{
     for rep in 0..=request.reps {
-        let figure = operate_once(rt, host, &executor, request.size)?;
+        let figure = operate_once(rt, executor, request.size)?;
         figures.note(rep, figure)?;
     }
     Ok(())
 }
 
 // All operations of one owner, in ns each.
-fn operate_once<R: Host>(
-    rt: HostRuntime,
-    host: R,
-    executor: &Executor<OpJob<Add, u64, R>, R>,
-    size: usize,
-) -> io::Result<u64> {
+fn operate_once<J, R>(rt: HostRuntime, executor: &Executor<J, R>, size: usize) -> io::Result<u64>
+where
+    J: Job + Carries<OpJob<Add, u64, R>>,
+    R: Runtime + RandomSource,
+{
     let start = Instant::now(&rt)?;
-    let mut owner = Unblock::new(executor.try_clone()?, 0u64);
-    let all_right = operate(host, &mut owner, size as u64);
-    let took = start.elapsed(&rt);
-    drop(owner);
-    if !all_right? {
+    let owner = Unblock::new(executor.try_clone()?, 0u64);
+    if !operate(executor.runtime(), owner, size as u64)? {
         return Err(failed());
     }
-    Ok(each(took?.as_nanos(), size))
+    Ok(each(start.elapsed(&rt)?.as_nanos(), size))
 }

@@ -8,10 +8,13 @@ mod calls;
 mod ends;
 mod figures;
 mod lent;
+mod owner;
 mod pipe;
+mod reading;
 mod reads;
 mod sessions;
 mod writes;
+mod writing;
 
 use crate::bench::Bench;
 use crate::figures::{Figures, Request};

@@ -1,22 +1,15 @@
 //! The benchmarks of readers that are lent.
-ghost use Rattle.futures.specs.Poll.{OnPending};
-ghost use Rattle.futures.specs.Task.{IsArmed, Keeps};
+ghost use Rattle.std.specs.Prelude.{◌<◌};
 
 use crate::figures::{Figures, Request, rate};
-use crate::pipe::{failed, is_right, pattern};
-use blocking::{AsyncRead, Executor, Host, ReadJob, Runtime, Unblock};
-use blocking_core::pool::{Carries, Job};
-use futures::Future;
-use futures::executor::block_on;
-use futures::task::{Context, Poll};
+use crate::pipe::{failed, pattern};
+use crate::reading::{ReadPlan, read_by};
+use blocking::{Executor, Host, ReadJob};
+use blocking_core::pipe::DEFAULT_BYTES;
 use std::fs::File;
 use std::io::Read;
-use std::sync::{Arc, Wait};
-use std::time::Instant;
+use std::sync::Arc;
 use std::{fs, io};
-
-// How many bytes the owner's buffer holds.
-const PIECE: usize = 65_536;
 
 // The file of `readfile_200m`, in memory.
 const FILE: &str = "/dev/shm/blk_bench-readfile";
@@ -56,12 +49,13 @@ impl Reads {
         }
     }
 
-    // (none is the default)
-    fn capacity(self) -> Option<usize> {
+    fn capacity(self) -> usize
+        ensures { 0 < result }
+    {
         match self {
-            Reads::ShortBy64K | Reads::LongBy64K => Some(65_536),
-            Reads::ShortBy4K | Reads::LongBy4K => Some(4_096),
-            _ => None,
+            Reads::ShortBy64K | Reads::LongBy64K => 65_536,
+            Reads::ShortBy4K | Reads::LongBy4K => 4_096,
+            _ => DEFAULT_BYTES,
         }
     }
 
@@ -93,83 +87,47 @@ impl Reads {
         request: Request,
         figures: &mut Figures,
     ) -> io::Result<()> {
-        let Ok(executor) = Executor::new(host, None) else {
-            return Err(failed());
-        };
-        for rep in 0..=request.reps {
-            let figure = self.once(rt, host, &executor, bytes, request.size)?;
-            figures.note(rep, figure)?;
+        match Executor::new(host, None) {
+            Ok(executor) => self.measure_over(rt, &executor, bytes, request, figures),
+            Err(_) => Err(failed()),
         }
-        Ok(())
     }
 
-    // One session, in MB/s.
-    fn once<R: Host>(
+    // Runs the request's sessions, each with a new reader.
+    fn measure_over<R: Host>(
         self,
         rt: HostRuntime,
-        host: R,
-        executor: &Readers<R>,
+        executor: &Executor<ReadJob<Reader, R>, R>,
         bytes: &Arc<Vec<u8>>,
-        size: usize,
-    ) -> io::Result<u64> {
-        let buffer = vec![in rt.alloc(); 0u8; PIECE]?;
-        let start = Instant::now(&rt)?;
-        let reader = self.open(rt, bytes)?;
-        let reading = self.reading(host, executor, reader, buffer)?;
-        let came = block_on(&host, reading)??;
-        if came != size as u64 {
-            return Err(failed());
+        request: Request,
+        figures: &mut Figures,
+    ) -> io::Result<()> {
+        let plan = ReadPlan {
+            capacity: self.capacity(),
+            sessions: 1,
+            length: request.size,
+        };
+        for rep in 0..=request.reps {
+            let reader = self.open(rt, bytes)?;
+            let nanos = read_by(rt, executor, reader, plan)?;
+            figures.note(rep, rate(request.size, nanos))?;
         }
-        Ok(rate(size, start.elapsed(&rt)?.as_nanos()))
+        Ok(())
     }
 
     fn open(self, rt: HostRuntime, bytes: &Arc<Vec<u8>>) -> io::Result<Reader> {
         Ok(match self {
             Reads::File => Reader::File(File::open(&rt, FILE)?),
-            _ => Reader::Memory(Memory::over(Arc::try_clone(bytes)?)),
-        })
-    }
-
-    fn reading<R: Host>(
-        self,
-        rt: R,
-        executor: &Readers<R>,
-        reader: Reader,
-        buffer: Vec<u8>,
-    ) -> io::Result<Reading<ReadJob<Reader, R>, R>> {
-        let executor = executor.try_clone()?;
-        let owner = match self.capacity() {
-            Some(capacity) if capacity > 0 => Unblock::with_capacity(capacity, executor, reader),
-            _ => Unblock::new(executor, reader),
-        };
-        Ok(Reading {
-            rt,
-            owner,
-            buffer,
-            came: 0,
+            _ => Reader::over(Arc::try_clone(bytes)?),
         })
     }
 }
 
-type Readers<R> = Executor<ReadJob<Reader, R>, R>;
-
-/// Bytes in memory, from a place on.
+/// Bytes in memory, read from a place on.
 #[derive(Drop)]
 pub(crate) struct Memory {
     bytes: Arc<Vec<u8>>,
     place: usize,
-}
-
-impl Memory {
-    /// From the first byte on.
-    pub(crate) fn over(bytes: Arc<Vec<u8>>) -> Memory {
-        Memory { bytes, place: 0 }
-    }
-
-    /// From the first byte on again.
-    pub(crate) fn rewind(&mut self) {
-        self.place = 0;
-    }
 }
 
 impl Read for Memory {
@@ -182,11 +140,26 @@ impl Read for Memory {
     }
 }
 
-// A reader that is lent.
+/// A reader that is lent.
 #[derive(Drop)]
-enum Reader {
+pub(crate) enum Reader {
     Memory(Memory),
+    /// A file.
     File(File),
+}
+
+impl Reader {
+    /// A reader over bytes in memory, at the first.
+    pub(crate) fn over(bytes: Arc<Vec<u8>>) -> Reader {
+        Reader::Memory(Memory { bytes, place: 0 })
+    }
+
+    /// Rewinds a reader over memory. A file stays where it is.
+    pub(crate) fn rewind(&mut self) {
+        if let Reader::Memory(memory) = self {
+            memory.place = 0;
+        }
+    }
 }
 
 impl Read for Reader {
@@ -194,66 +167,6 @@ impl Read for Reader {
         match self {
             Reader::Memory(memory) => memory.read(buf),
             Reader::File(file) => file.read(buf),
-        }
-    }
-}
-
-/// Reads to the end, and counts how many bytes came, of which each piece's first and last were right.
-pub(crate) fn read_all<A: AsyncRead, R: Runtime>(
-    rt: R,
-    owner: &mut A,
-    cx: &mut Context<'_>,
-    buffer: &mut [u8],
-    came: &mut u64,
-) -> Poll<io::Result<()>>
-    requires { A.closed owner.old → ⊥ }
-    ensures open { A.closed owner.new → ⊥ }
-    ensures armed { OnPending result (IsArmed cx.new) }
-    ensures kept { Keeps cx.old cx.new }
-{
-    for _ in rt.forever() {
-        match owner.poll_read(cx, buffer) {
-            Poll::Pending => return Poll::Pending,
-            Poll::Ready(Ok(0)) => return Poll::Ready(Ok(())),
-            Poll::Ready(Ok(count)) if is_right(*came, &buffer[..count]) => {
-                *came = came.saturating_add(count as u64);
-            }
-            Poll::Ready(_) => return Poll::Ready(Err(failed())),
-        }
-    }
-    unreachable!()
-}
-
-// Reads to the end and asks for the reader, and gives how many bytes came, of which each piece's first and last were right.
-#[derive(Drop)]
-struct Reading<J: Job + Carries<ReadJob<Reader, R>>, R: Runtime> {
-    rt: R,
-    owner: Unblock<Reader, (), J, R>,
-    buffer: Vec<u8>,
-    came: u64,
-}
-
-impl<J: Job + Carries<ReadJob<Reader, R>>, R: Runtime> Future for Reading<J, R> {
-    type Output = io::Result<u64>;
-
-    fn poll(&mut self, cx: &mut Context<'_>) -> Poll<io::Result<u64>> {
-        if self.owner.is_closed() {
-            return Poll::Ready(Err(failed()));
-        }
-        match read_all(
-            self.rt,
-            &mut self.owner,
-            cx,
-            &mut self.buffer,
-            &mut self.came,
-        ) {
-            Poll::Pending => return Poll::Pending,
-            Poll::Ready(Err(error)) => return Poll::Ready(Err(error)),
-            Poll::Ready(Ok(())) => {}
-        }
-        match self.owner.poll_get_mut(cx) {
-            Poll::Pending => Poll::Pending,
-            Poll::Ready(_) => Poll::Ready(Ok(self.came)),
         }
     }
 }

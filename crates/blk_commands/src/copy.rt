@@ -1,7 +1,8 @@
 //! What `blk copy` does: a reader and a writer, each lent to the same pool, and a copy from the one to the other.
 use crate::fault::BlkFault;
 use blocking::{
-    Copier, CopyFault, CopyJobs, Executor, Fault, Host, IoFault, Reader, Unblock, Writer,
+    AsyncRead, AsyncWrite, Copier, CopyFault, CopyJobs, Executor, Fault, Host, IoFault, Reader,
+    Unblock, Writer,
 };
 use futures::executor::block_on;
 use std::io::{Read, Write};
@@ -50,6 +51,18 @@ pub fn copy<H: Host, R: Read + Drop + Send + 'static, W: Write + Drop + Send + '
         input,
     );
     let writer: Writer<W, H, CopyJobs<H, R, W>> = Unblock::with_capacity(AHEAD, executor, output);
+    copy_all(rt, reader, writer)
+}
+
+// Copies all that any reader gives to any writer.
+fn copy_all<H: Host, A: AsyncRead + Drop, B: AsyncWrite + Drop>(
+    rt: H,
+    reader: A,
+    writer: B,
+) -> Result<(), BlkFault>
+    requires reader_open { A.closed reader → ⊥ }
+    requires writer_open { B.closed writer → ⊥ }
+{
     let copier = Copier::new(rt.alloc(), reader, writer, PIECE)?;
     outcome(block_on(&rt, copier).map_err(|_| BlkFault::Running)?)
 }

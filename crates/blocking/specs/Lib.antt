@@ -1,1 +1,2 @@
 pub mod JobSteps
+pub mod Wholes

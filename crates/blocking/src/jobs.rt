@@ -6,7 +6,6 @@ use blocking_core::task::{Call, CallOn};
 use blocking_executor::{CallJob, Runtime};
 use blocking_unblock::Unblock;
 use blocking_unblock_jobs::{ItemJob, OpJob, ReadJob, SeekJob, WriteJob};
-use std::fs::File;
 use std::io::{self, Read, Seek, SeekFrom, Write};
 
 /// A reader that is lent to an executor whose jobs are of type `J`.
@@ -36,34 +35,6 @@ pub type Writer<T, H, J = WriteJob<T, H>> = Unblock<T, (), J, H>;
 /// let first = block_on(&rt, numbers.next())?.transpose()?;
 /// ```
 pub type Items<D, I, H, J = ItemJob<D, I, H>> = Unblock<D, I, J, H>;
-
-/// The jobs of an executor whose files are read, written and sought.
-///
-/// ```rust
-/// let executor: Executor<FileJobs<H>, H> = Executor::new(rt, Some("2"))?;
-/// let mut file: Reader<File, H, FileJobs<H>> = Unblock::new(executor, file);
-/// let length = block_on(&rt, file.seek(SeekFrom::End(0)))??;
-/// ```
-pub type FileJobs<H> = Jobs<H, Unused, File, File, Unused, File>;
-
-/// The same, and calls of type `F`.
-///
-/// ```rust
-/// let executor: Executor<CallFileJobs<H, Double>, H> = Executor::new(rt, None)?;
-/// let doubled = block_on(&rt, unblock(&executor, Double(21))?)?;
-/// let file: Reader<File, H, CallFileJobs<H, Double>> = Unblock::new(executor, file);
-/// ```
-pub type CallFileJobs<H, F> = Jobs<H, F, File, File, Unused, File>;
-
-/// The jobs of an executor that copies from readers to writers.
-///
-/// ```rust
-/// let executor: Executor<CopyJobs<H, File, File>, H> = Executor::new(rt, Some("2"))?;
-/// let reader: Reader<File, H, CopyJobs<H, File, File>> = Unblock::new(executor.try_clone()?, from);
-/// let writer: Writer<File, H, CopyJobs<H, File, File>> = Unblock::new(executor, to);
-/// let copied = block_on(&rt, Copier::new(rt.alloc(), reader, writer, 65_536)?)??;
-/// ```
-pub type CopyJobs<H, R, W> = Jobs<H, Unused, R, W>;
 
 /// What stands for a kind of job that an executor isn't to run: a call that does nothing, or a handle with nothing behind it.
 ///

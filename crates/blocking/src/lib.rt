@@ -37,7 +37,10 @@
 //! files over one pool in `blocking_files`.
 #![tactic(auto)]
 
+mod copy_jobs;
+mod file_jobs;
 mod jobs;
+pub mod whole;
 
 pub use blocking_core::io::Fault;
 pub use blocking_core::limit::DEFAULT_MAX_THREADS;
@@ -134,11 +137,19 @@ pub use blocking_unblock_jobs::OpJob;
 pub use blocking_unblock_jobs::ReadJob;
 pub use blocking_unblock_jobs::SeekJob;
 pub use blocking_unblock_jobs::WriteJob;
-pub use jobs::CallFileJobs;
-pub use jobs::CopyJobs;
-pub use jobs::FileJobs;
+pub use copy_jobs::CopyJobs;
+pub use file_jobs::CallFileJobs;
+pub use file_jobs::FileJobs;
 pub use jobs::Items;
 pub use jobs::Jobs;
 pub use jobs::Reader;
 pub use jobs::Unused;
 pub use jobs::Writer;
+pub use whole::call;
+pub use whole::call_over;
+pub use whole::copy;
+pub use whole::copy_over;
+pub use whole::read_all;
+pub use whole::read_all_over;
+pub use whole::write_all;
+pub use whole::write_all_over;

@@ -23,9 +23,16 @@ use std::sync::Wait;
 /// ```
 ///
 /// Dropping it gives its calls up, as dropping each [`Task`] does.
-#[derive(Drop)]
 pub struct CallSet<F: Call<Out: Drop>, H: Wait + Copy> {
     calls: FuturesUnordered<FusedTask<F, H>>,
+}
+
+// (as a derive has it; by hand it is proved here once, and not in each crate that drops one)
+impl<F: Call<Out: Drop>, H: Wait + Copy> Drop for CallSet<F, H> {
+    fn drop(self) {
+        let CallSet { calls } = self;
+        drop(calls);
+    }
 }
 
 impl<F: Call<Out: Drop>, H: Wait + Copy> CallSet<F, H> {

@@ -20,13 +20,21 @@ use std::sync::Wait;
 /// ```
 ///
 /// Dropping it gives the call up, as dropping its [`Task`] does.
-#[derive(Drop)]
 pub struct FusedTask<F: Call<Out: Drop>, H: Wait + Copy> {
     // The task, until its answer was taken.
     task: Option<Task<F, H>>,
     // What a poll behind the answer waits for.
     never: Pending<()>,
     ghost untaken: { ForSome task (λ task. task.is_taken ≡ false) },
+}
+
+// (as a derive has it; by hand it is proved here once, and not in each crate that drops one)
+impl<F: Call<Out: Drop>, H: Wait + Copy> Drop for FusedTask<F, H> {
+    fn drop(self) {
+        let FusedTask { task, never } = self;
+        drop(task);
+        drop(never);
+    }
 }
 
 impl<F: Call<Out: Drop>, H: Wait + Copy> FusedTask<F, H> {

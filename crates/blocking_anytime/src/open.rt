@@ -67,7 +67,7 @@ pub struct Open<T: Drop, I: Drop, J: Job, H: Runtime> {
     ghost open: { IsClosed owner.place → ⊥ },
 }
 
-// (as a derive has it: by hand it is proved here once, and not in each crate that drops one)
+// (as a derive has it; by hand it is proved here once, and not in each crate that drops one)
 impl<T: Drop, I: Drop, J: Job, H: Runtime> Drop for Open<T, I, J, H> {
     fn drop(self) {
         let Open { owner } = self;

@@ -41,11 +41,22 @@ struct Shared<J: Job> {
 /// let executor: Executor<CallJob<Double, H>, H> = Executor::new(rt, Some("8"))?;
 /// let doubled = block_on(&rt, unblock(&executor, Double(21))?)?;
 /// ```
-#[derive(Drop)]
 pub struct Executor<J: Job, H: Runtime> {
     shared: Arc<Shared<J>>,
     client: u32,
     rt: H,
+}
+
+// (as a derive has it; by hand it is proved here once, and not in each crate that drops one)
+impl<J: Job, H: Runtime> Drop for Executor<J, H> {
+    fn drop(self) {
+        let Executor {
+            shared,
+            client: _,
+            rt: _,
+        } = self;
+        drop(shared);
+    }
 }
 
 // What starts threads is here alone, with the bounds that it takes.
@@ -160,11 +171,12 @@ impl<J: Job, H: Runtime> Executor<J, H> {
     pub fn for_client(self, client: u32) -> Executor<J, H>
         ensures { result ≡ record self { client = client } }
     {
-        Executor {
-            shared: self.shared,
-            client,
-            rt: self.rt,
-        }
+        let Executor {
+            shared,
+            client: _,
+            rt,
+        } = self;
+        Executor { shared, client, rt }
     }
 
     /// The client for which this share adds its jobs: 0, unless [`for_client`](Executor::for_client) named another.

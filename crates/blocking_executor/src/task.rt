@@ -204,7 +204,6 @@ impl<F: Call<Out: Drop>, H: Wait + Copy> Future for Task<F, H> {
 /// A call that was cancelled: a future of the answer that was there before the cancel, or else of None, which comes once the
 /// job is over. Until that was taken it may be polled.
 /// (See the example at [`Task::cancel`].)
-#[derive(Drop)]
 pub struct Cancel<F: Call<Out: Drop>, H: Wait + Copy> {
     share: Arc<CallShare<F>>,
     source: Source,
@@ -213,6 +212,23 @@ pub struct Cancel<F: Call<Out: Drop>, H: Wait + Copy> {
     answer: Option<Slotted<F::Out>>,
     is_taken: bool,
     rt: H,
+}
+
+// (as a derive has it; by hand it is proved here once, and not in each crate that drops one)
+impl<F: Call<Out: Drop>, H: Wait + Copy> Drop for Cancel<F, H> {
+    fn drop(self) {
+        let Cancel {
+            share,
+            source: _,
+            found,
+            answer,
+            is_taken: _,
+            rt: _,
+        } = self;
+        drop(share);
+        drop(found);
+        drop(answer);
+    }
 }
 
 impl<F: Call<Out: Drop>, H: Wait + Copy> Cancel<F, H> {

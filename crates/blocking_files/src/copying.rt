@@ -32,7 +32,6 @@ const PIECE: usize = 65_536;
 /// ```rust
 /// let copied = block_on(&rt, files.copy(from, to))??;
 /// ```
-#[derive(Drop)]
 pub struct Copying<H: Runtime, J: Job = FileJob<H>> {
     // The call that opens both.
     task: FileTask<OpenBoth, H>,
@@ -45,6 +44,23 @@ pub struct Copying<H: Runtime, J: Job = FileJob<H>> {
     ended: Option<Copier<File<H, J>, File<H, J>>>,
     ghost going: { ForSome copier (λ copier. is_over copier.core.next ≡ false) },
     ghost opened: { ForSome copier (λ _. IsNone task.task × IsNone task.refused) },
+}
+
+// (as a derive has it; by hand it is proved here once, and not in each crate that drops one)
+impl<H: Runtime, J: Job> Drop for Copying<H, J> {
+    fn drop(self) {
+        let Copying {
+            task,
+            files,
+            alloc: _,
+            copier,
+            ended,
+        } = self;
+        drop(task);
+        drop(files);
+        drop(copier);
+        drop(ended);
+    }
 }
 
 impl<H: Runtime, J: Job + Carries<CallJob<OpenBoth, H>>> Copying<H, J> {

@@ -34,9 +34,16 @@ use std::io::ErrorKind;
 ///     }
 /// }
 /// ```
-#[derive(Drop)]
 pub struct Entries<H: Runtime, J: Job = FileJob<H>> {
     owner: OpenItems<Box<ReadDir>, io::Result<DirEntry>, H, J>,
+}
+
+// (as a derive has it; by hand it is proved here once, and not in each crate that drops one)
+impl<H: Runtime, J: Job> Drop for Entries<H, J> {
+    fn drop(self) {
+        let Entries { owner } = self;
+        drop(owner);
+    }
 }
 
 // How many entries a worker looks ahead at most.
@@ -99,11 +106,19 @@ impl<H: Runtime, J: Job + Carries<ItemJob<Box<ReadDir>, io::Result<DirEntry>, H>
 /// let mut entries = block_on(&rt, files.read_dir(folder))??;
 /// count(rt, &mut entries)
 /// ```
-#[derive(Drop)]
 pub struct Listing<H: Runtime, J: Job = FileJob<H>> {
     task: FileTask<List, H>,
     // What the directory is lent to, where there was a share of it.
     files: Option<Files<H, J>>,
+}
+
+// (as a derive has it; by hand it is proved here once, and not in each crate that drops one)
+impl<H: Runtime, J: Job> Drop for Listing<H, J> {
+    fn drop(self) {
+        let Listing { task, files } = self;
+        drop(task);
+        drop(files);
+    }
 }
 
 // The entries over a pool, of which there may be no share.

@@ -34,12 +34,21 @@ use std::sync::Arc;
 /// let place = block_on(&rt, file.seek(SeekFrom::Start(5)))??;
 /// block_on(&rt, file.read_exact(&mut three))??;
 /// ```
-#[derive(Drop)]
 pub struct File<H: Runtime, J: Job = FileJob<H>> {
     owner: OpenReader<Shared, H, J>,
     // The same file, of which the system is asked.
     file: Shared,
     files: Files<H, J>,
+}
+
+// (as a derive has it; by hand it is proved here once, and not in each crate that drops one)
+impl<H: Runtime, J: Job> Drop for File<H, J> {
+    fn drop(self) {
+        let File { owner, file, files } = self;
+        drop(owner);
+        drop(file);
+        drop(files);
+    }
 }
 
 impl<H: Runtime, J: Job> File<H, J> {

@@ -27,11 +27,21 @@ use std::path::AsPath;
 /// block_on(&rt, files.write(&first, "oaks\n"))??;
 /// let length = block_on(&rt, files.metadata(&first))??.len();
 /// ```
-#[derive(Drop)]
 pub struct Files<H: Runtime, J: Job = FileJob<H>> {
     executor: Executor<J, H>,
     // What the calls ask.
     system: HostRuntime,
+}
+
+// (as a derive has it; by hand it is proved here once, and not in each crate that drops one)
+impl<H: Runtime, J: Job> Drop for Files<H, J> {
+    fn drop(self) {
+        let Files {
+            executor,
+            system: _,
+        } = self;
+        drop(executor);
+    }
 }
 
 impl<H: Host> Files<H> {

@@ -13,7 +13,6 @@ use std::io;
 /// let executor: Executor<FileJob<H>, H> = Executor::new(rt, Some("2"))?;
 /// let files = Files::over(executor, system);
 /// ```
-#[derive(Drop)]
 pub enum FileJob<H: Runtime> {
     /// That of a call that opens a file.
     Open(CallJob<Open, H>),
@@ -37,6 +36,25 @@ pub enum FileJob<H: Runtime> {
     Seek(SeekJob<Shared, H>),
     /// That of a session of a directory's entries.
     Entry(ItemJob<Box<ReadDir>, io::Result<DirEntry>, H>),
+}
+
+// (as a derive has it; by hand it is proved here once, and not in each crate that drops one)
+impl<H: Runtime> Drop for FileJob<H> {
+    fn drop(self) {
+        match self {
+            FileJob::Open(job) => drop(job),
+            FileJob::OpenBoth(job) => drop(job),
+            FileJob::Bytes(job) => drop(job),
+            FileJob::Text(job) => drop(job),
+            FileJob::Change(job) => drop(job),
+            FileJob::Look(job) => drop(job),
+            FileJob::List(job) => drop(job),
+            FileJob::Read(job) => drop(job),
+            FileJob::Write(job) => drop(job),
+            FileJob::Seek(job) => drop(job),
+            FileJob::Entry(job) => drop(job),
+        }
+    }
 }
 
 /// A job type that carries all that a pool of files asks for, as [`FileJob`] does.

@@ -21,11 +21,19 @@ use std::io::ErrorKind;
 /// let opening = files.open(path);
 /// let mut file = block_on(&rt, opening)??;
 /// ```
-#[derive(Drop)]
 pub struct Opening<H: Runtime, J: Job = FileJob<H>> {
     task: FileTask<Open, H>,
     // What the file is lent to, where there was a share of it.
     files: Option<Files<H, J>>,
+}
+
+// (as a derive has it; by hand it is proved here once, and not in each crate that drops one)
+impl<H: Runtime, J: Job> Drop for Opening<H, J> {
+    fn drop(self) {
+        let Opening { task, files } = self;
+        drop(task);
+        drop(files);
+    }
 }
 
 // The file over a pool, of which there may be no share.

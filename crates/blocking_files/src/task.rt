@@ -21,7 +21,6 @@ use std::snapshot::Snapshot;
 /// let text = files.read_to_string(path);
 /// Ok((block_on(&rt, bytes)??, block_on(&rt, text)??, length))
 /// ```
-#[derive(Drop)]
 pub struct FileTask<F: Call<Out: Drop> + Drop, H: Runtime> {
     // The call, until it was answered.
     task: Option<Task<F, H>>,
@@ -34,6 +33,22 @@ pub struct FileTask<F: Call<Out: Drop> + Drop, H: Runtime> {
     ghost untaken: { ForSome task (λ task. task.is_taken ≡ false) },
     ghost one: { ForSome refused (λ _. is_some task ≡ false) },
     ghost known: { ForSome task (λ _. is_some asked ≡ true) },
+}
+
+// (as a derive has it; by hand it is proved here once, and not in each crate that drops one)
+impl<F: Call<Out: Drop> + Drop, H: Runtime> Drop for FileTask<F, H> {
+    fn drop(self) {
+        let FileTask {
+            task,
+            refused,
+            never,
+            asked,
+        } = self;
+        drop(task);
+        drop(refused);
+        drop(never);
+        drop(asked);
+    }
 }
 
 impl<F: Call<Out: Drop> + Drop, H: Runtime> FileTask<F, H> {

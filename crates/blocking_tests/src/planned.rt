@@ -12,16 +12,6 @@ pub(crate) trait Plan {
     const THEN: JobStep;
 }
 
-/// Takes all steps.
-#[derive(Drop)]
-pub(crate) struct Ends;
-
-impl Plan for Ends {
-    const STEPS: u32 = u32::MAX;
-
-    const THEN: JobStep = JobStep::Done;
-}
-
 /// Waits before the call is made.
 #[derive(Drop)]
 pub(crate) struct WaitsAtFirst;

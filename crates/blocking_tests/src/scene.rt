@@ -1,11 +1,8 @@
 //! Scenes: calls on one executor, played step by step. A step that shows something else than it must ends its scene. The player
 //! promises nothing.
-use crate::threads::{come_to_be, has_worker};
+use crate::threads::{all_go, count_others};
 use crate::visit::{LOOKS, Stop, Track, Visit};
-use blocking::{
-    CallJob, Cancel, Executor, Host, Runtime, Task, set_client_limit, set_max_blocking_threads,
-    unblock_for,
-};
+use blocking::{CallJob, Cancel, Executor, Host, Runtime, Task, unblock};
 use blocking_core::pool::{Carries, Job};
 use futures::task::Poll;
 use futures::test::MockTask;
@@ -14,7 +11,6 @@ use std::process::Abort;
 use std::random::RandomSource;
 use std::sync::Arc;
 use std::test::Fail;
-use std::time::{Duration, Instant};
 use std::{io, mem, thread};
 
 /// What is done, or what has to be seen. Calls are named by their places in the scene.
@@ -22,30 +18,14 @@ use std::{io, mem, thread};
 pub(crate) enum Step {
     /// A call begins, which has this stop.
     Begin(Stop),
-    /// A call of a client begins, which has this stop.
-    BeginFor(u32, Stop),
     /// Something is done with a call or with its task.
     Do(usize, Act),
     /// Something is seen of a call or of its task.
     See(usize, Sight),
-    /// The limit is set.
-    Limit(usize),
-    /// The limit of running jobs for each client is set, or let go.
-    ClientLimit(Option<usize>),
     /// A sweep puts so many jobs back.
     Sweep(usize),
-    /// The workers come to be so many.
-    Workers(usize),
-    /// There is a worker whose name bears this number.
-    Worker(u64),
-    /// So many calls are made one by one, each detached, and the worker idles after each.
-    OneByOne(u32),
-    /// The clock starts.
-    Start,
-    /// So many milliseconds pass.
-    Pause(u64),
-    /// Fewer milliseconds than these have passed since the start.
-    Within(u64),
+    /// All workers go.
+    NoWorker,
 }
 
 /// What is done with a call or with its task.
@@ -185,7 +165,8 @@ fn poll_cancel<H: Runtime>(mock: &MockTask, cancel: &mut Cancel<Visit, H>) -> Op
     })
 }
 
-fn wakes(mock: &MockTask) -> bool {
+/// Whether the task is woken before long.
+pub(crate) fn wakes(mock: &MockTask) -> bool {
     for _ in 0..LOOKS {
         if mock.is_woken() {
             return true;
@@ -200,16 +181,16 @@ fn wakes(mock: &MockTask) -> bool {
 struct Scene<J: Job, H: Runtime> {
     rt: H,
     executor: Executor<J, H>,
+    // How many threads were there before its workers.
+    others: usize,
     calls: Vec<Begun<H>>,
-    start: Option<Instant>,
 }
 
 impl<J: Job + Carries<CallJob<Visit, H>>, H: Runtime + RandomSource + Files> Scene<J, H> {
     // Whether a step shows what it must.
     fn take(&mut self, step: Step) -> io::Result<bool> {
         match step {
-            Step::Begin(stop) => self.begin(0, stop),
-            Step::BeginFor(client, stop) => self.begin(client, stop),
+            Step::Begin(stop) => self.begin(stop),
             Step::Do(place, act) => match self.calls.get_mut(place) {
                 Some(call) => Ok(call.act(act)),
                 None => Ok(false),
@@ -218,22 +199,15 @@ impl<J: Job + Carries<CallJob<Visit, H>>, H: Runtime + RandomSource + Files> Sce
                 Some(call) => Ok(call.shows(sight, place)),
                 None => Ok(false),
             },
-            Step::Limit(limit) => Ok(self.limit(limit)),
-            Step::ClientLimit(limit) => Ok(self.limit_clients(limit)),
             Step::Sweep(count) => Ok(self.executor.sweep() == count),
-            Step::Workers(count) => come_to_be(&self.rt, count),
-            Step::Worker(number) => has_worker(&self.rt, number),
-            Step::OneByOne(count) => self.make_one_by_one(count),
-            Step::Start => self.start_clock(),
-            Step::Pause(millis) => Ok(self.pause(millis)),
-            Step::Within(millis) => self.is_within(millis),
+            Step::NoWorker => all_go(&self.rt, self.others),
         }
     }
 
-    fn begin(&mut self, client: u32, stop: Stop) -> io::Result<bool> {
+    fn begin(&mut self, stop: Stop) -> io::Result<bool> {
         let track = Arc::new(self.rt.alloc(), Track::new(self.calls.len(), stop))?;
         let call = Visit::new(Arc::try_clone(&track)?);
-        let Ok(task) = unblock_for(&self.executor, client, call) else {
+        let Ok(task) = unblock(&self.executor, call) else {
             return Ok(false);
         };
         self.calls.push(Begun {
@@ -242,57 +216,6 @@ impl<J: Job + Carries<CallJob<Visit, H>>, H: Runtime + RandomSource + Files> Sce
             mock: MockTask::new(&self.rt)?,
         })?;
         Ok(true)
-    }
-
-    // Whether a call was made that nobody awaits.
-    fn make_detached(&mut self) -> io::Result<bool> {
-        let has_begun = self.begin(0, Stop::Nowhere)?;
-        match self.calls.last_mut() {
-            Some(call) => Ok(has_begun && call.act(Act::Detach) && call.track.goes()),
-            None => Ok(false),
-        }
-    }
-
-    fn make_one_by_one(&mut self, count: u32) -> io::Result<bool> {
-        for _ in 0..count {
-            if !self.make_detached()? {
-                return Ok(false);
-            }
-            let _ = self.pause(20);
-        }
-        Ok(true)
-    }
-
-    fn pause(&self, millis: u64) -> bool {
-        thread::sleep(&self.rt, Duration::from_millis(millis));
-        true
-    }
-
-    fn limit(&self, limit: usize) -> bool {
-        if limit > 0 {
-            set_max_blocking_threads(&self.executor, limit);
-        }
-        limit > 0
-    }
-
-    fn limit_clients(&self, limit: Option<usize>) -> bool {
-        if let Some(0) = limit {
-            return false;
-        }
-        set_client_limit(&self.executor, limit);
-        true
-    }
-
-    fn start_clock(&mut self) -> io::Result<bool> {
-        self.start = Some(Instant::now(&self.rt)?);
-        Ok(true)
-    }
-
-    fn is_within(&self, millis: u64) -> io::Result<bool> {
-        match &self.start {
-            Some(start) => Ok(start.elapsed(&self.rt)? < Duration::from_millis(millis)),
-            None => Ok(false),
-        }
     }
 
     // The place of the first step that shows something else, if there is one.
@@ -304,39 +227,23 @@ impl<J: Job + Carries<CallJob<Visit, H>>, H: Runtime + RandomSource + Files> Sce
         }
         Ok(None)
     }
-
-    // The same of the last try, where one is enough.
-    fn first_wrong_of_tries(&mut self, steps: &[Step]) -> io::Result<Option<usize>> {
-        for _ in 1..TRIES {
-            if self.first_wrong(steps)?.is_none() {
-                return Ok(None);
-            }
-            // (a call that has stopped would keep its worker)
-            for call in self.calls.iter() {
-                call.track.go_on();
-            }
-            self.calls.clear();
-        }
-        self.first_wrong(steps)
-    }
 }
 
 /// A scene: its name and its steps.
 pub(crate) type Row = (&'static str, &'static [Step]);
-
-// How often a scene is played that has to be in time.
-const TRIES: u32 = 20;
 
 // A scene that has just begun. The setting is the executor's.
 fn new_scene<J: Job + Carries<CallJob<Visit, H>> + Send + 'static, H: Host + Files>(
     rt: H,
     setting: &str,
 ) -> Result<Scene<J, H>, Fail> {
+    let others = count_others(&rt)?;
     Ok(Scene {
         rt,
         executor: Executor::new(rt, Some(setting))?,
+        // (with the spawner)
+        others: others.saturating_add(1),
         calls: Vec::new(rt.alloc()),
-        start: None,
     })
 }
 
@@ -356,25 +263,6 @@ pub(crate) fn play<J: Job + Carries<CallJob<Visit, H>> + Send + 'static, H: Host
     (name, steps): &Row,
 ) -> Result<(), Fail> {
     let wrong = first_wrong::<J, H>(rt, setting, steps)?;
-    assert_eq!(rt; wrong, None, "{name}");
-    Ok(())
-}
-
-fn first_wrong_of_tries<J: Job + Carries<CallJob<Visit, H>> + Send + 'static, H: Host + Files>(
-    rt: H,
-    setting: &str,
-    steps: &[Step],
-) -> Result<Option<usize>, Fail> {
-    let mut scene: Scene<J, H> = new_scene(rt, setting)?;
-    Ok(scene.first_wrong_of_tries(steps)?)
-}
-
-/// Plays a scene that a busy machine may be too slow for, until it is in time. It is played on one executor.
-pub(crate) fn play_in_time<
-    J: Job + Carries<CallJob<Visit, H>> + Send + 'static,
-    H: Host + Files + Abort,
->(rt: H, setting: &str, (name, steps): &Row) -> Result<(), Fail> {
-    let wrong = first_wrong_of_tries::<J, H>(rt, setting, steps)?;
     assert_eq!(rt; wrong, None, "{name}");
     Ok(())
 }

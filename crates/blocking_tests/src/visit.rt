@@ -41,11 +41,9 @@ pub(crate) enum Stop {
     InCall,
     /// While it is dropped, since it wasn't made.
     InDrop,
-    /// While its answer is dropped.
-    InAnswersDrop,
 }
 
-/// What a test and its call share.
+/// What a test and its call share, or its handle, whose drop counts as one of the call.
 #[derive(Drop)]
 pub(crate) struct Track {
     number: usize,
@@ -70,8 +68,8 @@ impl Track {
         }
     }
 
-    // (a stop lasts longer than a test looks for anything)
-    fn stop(&self) {
+    /// Stops until it is let go on. (a stop lasts longer than a test looks for anything)
+    pub(crate) fn stop(&self) {
         self.has_stopped.store(true, Ordering::SeqCst);
         for _ in 0..STOP_LOOKS {
             if comes(&self.may_go_on) {
@@ -94,8 +92,8 @@ impl Track {
         self.is_made.load(Ordering::SeqCst)
     }
 
-    // Says that the call was dropped unmade, or else its answer was.
-    fn leave(&self) {
+    /// Says that the call was dropped unmade, or else its answer was.
+    pub(crate) fn leave(&self) {
         self.drops.fetch_add(1, Ordering::SeqCst);
         self.is_gone.store(true, Ordering::SeqCst);
     }
@@ -162,9 +160,6 @@ impl Answer {
 impl Drop for Answer {
     fn drop(self) {
         let Answer { track } = self;
-        if let Stop::InAnswersDrop = track.stop {
-            track.stop();
-        }
         track.leave();
     }
 }

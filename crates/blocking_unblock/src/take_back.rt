@@ -12,11 +12,18 @@ use futures::Future;
 use futures::task::{Context, Poll};
 
 /// The future of [`Unblock::into_inner`], which has an example.
-#[derive(Drop)]
 pub struct IntoInner<T: Drop, I: Drop, J: Job, H: Runtime> {
     // The owner, until the handle was taken.
     owner: Option<Unblock<T, I, J, H>>,
     ghost open: { ForSome owner (λ owner. IsClosed owner.place → ⊥) },
+}
+
+// (as a derive has it; by hand it is proved here once, and not in each crate that drops one)
+impl<T: Drop, I: Drop, J: Job, H: Runtime> Drop for IntoInner<T, I, J, H> {
+    fn drop(self) {
+        let IntoInner { owner } = self;
+        drop(owner);
+    }
 }
 
 impl<T: Drop, I: Drop, J: Job, H: Runtime> IntoInner<T, I, J, H> {

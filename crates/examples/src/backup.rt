@@ -58,6 +58,29 @@ fn save_all<H: Host>(
     Ok(tasks)
 }
 
+// Saves files, and asks a question meanwhile. How many bytes were saved, and the answer.
+fn save_and_ask<H: Host>(
+    rt: H,
+    files: HostRuntime,
+    executor: &Workers<H>,
+    folder: &PathBuf,
+) -> Result<(u64, u64)> {
+    set_client_limit(executor, Some(AT_A_TIME));
+    let tasks = save_all(rt, files, executor, folder)?;
+    let square = answer(&rt, unblock(executor, Work::Square(12))?)?;
+    let mut bytes = 0u64;
+    for task in tasks {
+        bytes = bytes.saturating_add(answer(&rt, task)?);
+    }
+    Ok((bytes, square))
+}
+
+// The same, on a pool of eight threads.
+fn back_up<H: Host>(rt: H, files: HostRuntime, folder: &PathBuf) -> Result<(u64, u64)> {
+    let executor: Workers<H> = Executor::new(rt, Some("8"))?;
+    save_and_ask(rt, files, &executor, folder)
+}
+
 // What a task gave.
 fn answer<H: Host>(rt: &H, task: Task<Work, H>) -> Result<u64> {
     if task.is_taken() {
@@ -70,14 +93,7 @@ fn answer<H: Host>(rt: &H, task: Task<Work, H>) -> Result<u64> {
 pub(crate) fn show_backup<H: Host>(rt: H, files: HostRuntime) -> Result<()> {
     let folder = env::temp_dir(&files)?.join(rt.alloc(), "furuvaite-backup")?;
     fs::create_dir_all(&files, &folder)?;
-    let executor: Workers<H> = Executor::new(rt, Some("8"))?;
-    set_client_limit(&executor, Some(AT_A_TIME));
-    let tasks = save_all(rt, files, &executor, &folder)?;
-    let square = answer(&rt, unblock(&executor, Work::Square(12))?)?;
-    let mut bytes = 0u64;
-    for task in tasks {
-        bytes = bytes.saturating_add(answer(&rt, task)?);
-    }
+    let (bytes, square) = back_up(rt, files, &folder)?;
     fs::remove_dir_all(&files, &folder)?;
     println!(rt; "{bytes} bytes were saved, and a request beside them was answered: {square}")?;
     Ok(())

@@ -1,10 +1,10 @@
 //! A folder whose entries come as a stream. A worker looks ahead, and this thread waits for nothing but the next entry.
 use crate::host::Host;
 use anyhow::Result;
-use blocking::{Executor, ItemJob};
+use blocking::{Executor, ItemJob, Refusal};
 use blocking_anytime::Open;
-use futures::StreamExt;
 use futures::executor::block_on;
+use futures::{Stream, StreamExt};
 use std::{env, fs, io};
 
 // How many entries the worker looks ahead at most.
@@ -21,7 +21,17 @@ where
     requires { (at : T) → T.can_next at }
 {
     let executor: Listers<T, I, H> = Executor::new(rt, Some("1"))?;
-    let mut entries = Open::with_capacity(AHEAD, executor, entries);
+    count_all(rt, Open::with_capacity(AHEAD, executor, entries))
+}
+
+// The same, over any stream.
+fn count_all<S, I, H>(rt: H, mut entries: S) -> Result<usize>
+where
+    S: Stream<Item = Result<io::Result<I>, Refusal>>,
+    I: Drop,
+    H: Host,
+    requires { (any : S) → S.can_poll any }
+{
     let mut count = 0usize;
     for _ in rt.forever() {
         let Some(entry) = block_on(&rt, entries.next())? else {

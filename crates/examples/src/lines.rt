@@ -1,7 +1,7 @@
 //! A file that is read line by line. A worker reads ahead, and this thread waits for nothing but what comes next.
 use crate::host::Host;
 use anyhow::Result;
-use blocking::{AsyncReadExt, Executor, ReadJob};
+use blocking::{AsyncRead, AsyncReadExt, Executor, ReadJob};
 use blocking_anytime::{Open, OpenReader};
 use futures::executor::block_on;
 use std::env::Env;
@@ -49,12 +49,19 @@ impl Line {
 
 // Prints each line that is read as soon as it has come.
 fn show_lines<T: Read + Drop + Send + 'static, H: Host>(rt: H, reader: T) -> Result<()> {
+    let executor: Readers<T, H> = Executor::new(rt, Some("1"))?;
+    let reader: OpenReader<T, H> = Open::with_capacity(AHEAD, executor, reader);
+    show_all(rt, reader)
+}
+
+// The same, over any reader.
+fn show_all<A: AsyncRead + Drop, H: Host>(rt: H, mut reader: A) -> Result<()>
+    requires { (any : A) → A.closed any → ⊥ }
+{
     let mut line = Line {
         number: 1,
         bytes: Vec::new(rt.alloc()),
     };
-    let executor: Readers<T, H> = Executor::new(rt, Some("1"))?;
-    let mut reader: OpenReader<T, H> = Open::with_capacity(AHEAD, executor, reader);
     let mut piece = [0u8; PIECE];
     for _ in rt.forever() {
         let count = block_on(&rt, reader.read(&mut piece))??;

@@ -9,6 +9,7 @@ mod own_job;
 mod records;
 mod refusal;
 mod two_kinds;
+mod whole;
 
 use crate::host::Host;
 use anyhow::Result;
@@ -21,7 +22,7 @@ use std::{fs, io};
 // A call is a value of a named type. This one reads a file, for which its thread may have to wait.
 #[derive(Drop)]
 struct ReadText {
-    rt: HostRuntime,
+    files: HostRuntime,
     path: &'static str,
 }
 
@@ -32,23 +33,29 @@ impl Call for ReadText {
     ghost may_give = { λ _. Unit {0} };
 
     fn call(self) -> io::Result<String> {
-        fs::read_to_string(&self.rt, self.path)
+        fs::read_to_string(&self.files, self.path)
     }
 }
 
-type Readers = Executor<CallJob<ReadText, HostRuntime>, HostRuntime>;
+type Readers<H> = Executor<CallJob<ReadText, H>, H>;
 
 fn main(rt: HostRuntime) -> Result<()> {
-    // At most eight workers, and none before there is a call.
-    let executor: Readers = Executor::new(rt, Some("8"))?;
-    let path = "/proc/sys/kernel/ostype";
-    let task = unblock(&executor, ReadText { rt, path })?;
-    // (here this thread may do something else)
-    let text = block_on(&rt, task)??;
-    print!(rt; "{path}: {text}")?;
+    show_text(rt, rt)?;
     folder::show_folder(rt, rt)?;
     backup::show_backup(rt, rt)?;
     more(rt)
+}
+
+// Makes a call, and prints what it gave.
+fn show_text<H: Host>(rt: H, files: HostRuntime) -> Result<()> {
+    // At most eight workers, and none before there is a call.
+    let executor: Readers<H> = Executor::new(rt, Some("8"))?;
+    let path = "/proc/sys/kernel/ostype";
+    let task = unblock(&executor, ReadText { files, path })?;
+    // (here this thread may do something else)
+    let text = block_on(&rt, task)??;
+    print!(rt; "{path}: {text}")?;
+    Ok(())
 }
 
 // The examples of the modules.
@@ -61,5 +68,6 @@ fn more<H: Host + Files<File = File> + Env>(rt: H) -> Result<()> {
     println!(rt; "{count} numbers came in order")?;
     lines::show_file(rt)?;
     records::show_records(rt)?;
+    whole::show_copy(rt)?;
     refusal::show(rt)
 }

@@ -1,12 +1,14 @@
 //! A file of records of one length: it is asked for its length, and each record is sought and read, while this thread waits for no disk.
 use crate::host::Host;
 use anyhow::Result;
-use blocking::{AsyncReadExt, AsyncSeekExt, CallOn, Executor, Jobs, OpJob, Unblock, Unused};
+use blocking::{
+    AsyncRead, AsyncReadExt, AsyncSeek, AsyncSeekExt, CallOn, Executor, FileJobs, OpJob, Unblock,
+};
 use blocking_anytime::{Open, OpenReader};
 use futures::executor::block_on;
 use std::env::Env;
 use std::fs::{File, Files};
-use std::io::{Read, Seek, SeekFrom};
+use std::io::SeekFrom;
 use std::{env, fs, io};
 
 const RECORDS: &str = "ash  birchelm  ";
@@ -37,15 +39,11 @@ fn show_count<H: Host>(rt: H, file: File) -> Result<()> {
     Ok(())
 }
 
-// The executor's jobs: those that read from a handle, and those that move it.
-type Access<T, H> = Jobs<H, Unused, T, Unused, Unused, T>;
-
 // Prints the record with this number, counted from 0.
-fn show_record<T: Read + Seek + Drop, H: Host>(
-    rt: H,
-    file: &mut OpenReader<T, H, Access<T, H>>,
-    number: u64,
-) -> Result<()> {
+fn show_record<A: AsyncRead + AsyncSeek, H: Host>(rt: H, file: &mut A, number: u64) -> Result<()>
+    requires read { (any : A) → ⟦<A as AsyncRead>⟧.closed any → ⊥ }
+    requires sought { (any : A) → ⟦<A as AsyncSeek>⟧.closed any → ⊥ }
+{
     let place = number.saturating_mul(LENGTH as u64);
     block_on(&rt, file.seek(SeekFrom::Start(place)))??;
     let mut record = [0u8; LENGTH];
@@ -56,11 +54,19 @@ fn show_record<T: Read + Seek + Drop, H: Host>(
 }
 
 // Prints two of the records, the last one first.
-fn show_two<T: Read + Seek + Drop + Send + 'static, H: Host>(rt: H, file: T) -> Result<()> {
-    let executor: Executor<Access<T, H>, H> = Executor::new(rt, Some("1"))?;
-    let mut file = Open::new(executor, file);
+fn show_two<A: AsyncRead + AsyncSeek + Drop, H: Host>(rt: H, mut file: A) -> Result<()>
+    requires read { (any : A) → ⟦<A as AsyncRead>⟧.closed any → ⊥ }
+    requires sought { (any : A) → ⟦<A as AsyncSeek>⟧.closed any → ⊥ }
+{
     show_record(rt, &mut file, 2)?;
     show_record(rt, &mut file, 1)
+}
+
+// The same, of a file that is lent to a pool whose jobs read a file and move it.
+fn show_lent<H: Host>(rt: H, file: File) -> Result<()> {
+    let executor: Executor<FileJobs<H>, H> = Executor::new(rt, Some("1"))?;
+    let file: OpenReader<File, H, FileJobs<H>> = Open::new(executor, file);
+    show_two(rt, file)
 }
 
 /// Writes a file of records, and prints how many they are, and two of them.
@@ -70,5 +76,5 @@ pub(crate) fn show_records<H: Host + Files<File = File> + Env>(rt: H) -> Result<
     let (asked, file) = (File::open(&rt, &path)?, File::open(&rt, &path)?);
     fs::remove_file(&rt, &path)?;
     show_count(rt, asked)?;
-    show_two(rt, file)
+    show_lent(rt, file)
 }

@@ -2,7 +2,7 @@
 use crate::host::Host;
 use crate::refusal::answer;
 use anyhow::{Result, bail};
-use blocking::{Call, Executor, Jobs};
+use blocking::{Call, CallJob, Executor};
 
 // What is asked for.
 #[derive(Drop)]
@@ -37,9 +37,17 @@ impl Call for Question {
 /// The answers of a call of each kind.
 pub(crate) fn answers<H: Host>(rt: H) -> Result<(u64, bool)> {
     // (no setting: the default limit)
-    let executor: Executor<Jobs<H, Question>, H> = Executor::new(rt, None)?;
-    let square = answer(&rt, &executor, Question::Square(12))?;
-    let is_even = answer(&rt, &executor, Question::IsEven(12))?;
+    let executor: Executor<CallJob<Question, H>, H> = Executor::new(rt, None)?;
+    answers_over(&rt, &executor)
+}
+
+// The same, over a pool that is there.
+fn answers_over<H: Host>(
+    rt: &H,
+    executor: &Executor<CallJob<Question, H>, H>,
+) -> Result<(u64, bool)> {
+    let square = answer(rt, executor, Question::Square(12))?;
+    let is_even = answer(rt, executor, Question::IsEven(12))?;
     match (square, is_even) {
         (Answer::Number(square), Answer::Truth(is_even)) => Ok((square, is_even)),
         _ => bail!("a question has an answer of another kind"),

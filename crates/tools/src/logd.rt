@@ -1,6 +1,6 @@
 //! A log of what several producers write to one pipe. What was told as written is in the file, whatever becomes of this process.
 use anyhow::Result;
-use blocking::{AsyncReadExt, AsyncWriteExt, CopyJobs, Executor, Host};
+use blocking::{AsyncRead, AsyncReadExt, AsyncWrite, AsyncWriteExt, CopyJobs, Executor, Host};
 use blocking_anytime::{Open, OpenReader, OpenWriter};
 use futures::executor::block_on;
 use std::io::{Read, Write};
@@ -16,8 +16,20 @@ where
     H: Host + Print,
 {
     let executor: Executor<CopyJobs<H, R, W>, H> = Executor::new(rt, Some("2"))?;
-    let mut input: OpenReader<R, H, CopyJobs<H, R, W>> = Open::new(executor.try_clone()?, input);
-    let mut log: OpenWriter<W, H, CopyJobs<H, R, W>> = Open::new(executor, log);
+    let input: OpenReader<R, H, CopyJobs<H, R, W>> = Open::new(executor.try_clone()?, input);
+    let log: OpenWriter<W, H, CopyJobs<H, R, W>> = Open::new(executor, log);
+    log_all(rt, input, log)
+}
+
+// The same, over any reader and any writer.
+fn log_all<A, B, H>(rt: H, mut input: A, mut log: B) -> Result<()>
+where
+    A: AsyncRead + Drop,
+    B: AsyncWrite + Drop,
+    H: Host + Print,
+    requires input { (any : A) → A.closed any → ⊥ }
+    requires log { (any : B) → B.closed any → ⊥ }
+{
     let (mut piece, mut logged) = ([0u8; PIECE], 0usize);
     for _ in rt.forever() {
         let count = block_on(&rt, input.read(&mut piece))??;

@@ -28,6 +28,8 @@ impl Call for Look {
     }
 }
 
+type Lookers<H> = Executor<CallJob<Look, H>, H>;
+
 // What is found there. (a root may be a file or a link)
 fn found_at(files: HostRuntime, path: &PathBuf) -> Found {
     let meta = fs::symlink_metadata(&files, path)?;
@@ -48,13 +50,23 @@ fn found_at(files: HostRuntime, path: &PathBuf) -> Found {
 
 /// Prints the bytes of each tree, and its root.
 pub(crate) fn show<H: Host + Print>(rt: H, files: HostRuntime, roots: &[String]) -> Result<()> {
-    let executor: Executor<CallJob<Look, H>, H> = Executor::new(rt, None)?;
+    let executor: Lookers<H> = Executor::new(rt, None)?;
     blocking::set_max_blocking_threads(&executor, READERS);
     set_client_limit(&executor, Some((READERS / roots.len().max(1)).max(1)));
+    show_over(rt, files, &executor, roots)
+}
+
+// The same, over a pool that is there.
+fn show_over<H: Host + Print>(
+    rt: H,
+    files: HostRuntime,
+    executor: &Lookers<H>,
+    roots: &[String],
+) -> Result<()> {
     let (mut looks, mut trees) = (CallSet::new(rt.alloc())?, Vec::new(rt.alloc()));
     for (client, root) in (1u32..).zip(roots) {
         let path = PathBuf::from_str(rt.alloc(), root.as_str())?;
-        looks.push(unblock_for(&executor, client, Look(files, client, path))?)?;
+        looks.push(unblock_for(executor, client, Look(files, client, path))?)?;
         trees.push(Ok(0u64))?;
     }
     for _ in rt.forever() {
@@ -65,7 +77,7 @@ pub(crate) fn show<H: Host + Print>(rt: H, files: HostRuntime, roots: &[String])
             (Some(Ok(bytes)), Ok((more, inside))) => {
                 *bytes = bytes.saturating_add(more);
                 for path in inside {
-                    looks.push(unblock_for(&executor, client, Look(files, client, path))?)?;
+                    looks.push(unblock_for(executor, client, Look(files, client, path))?)?;
                 }
             }
             (Some(tree), Err(why)) => *tree = Err(why),

@@ -144,11 +144,22 @@ pub(crate) fn run<R: Host>(
     figures: &mut Figures,
 ) -> io::Result<()> {
     let source = pattern(rt.alloc(), request.size)?;
-    let Ok(executor) = Executor::new(host, None) else {
-        return Err(failed());
-    };
-    for rep in 0..=request.reps {
-        let figure = once(rt, host, &executor, &source)?;
+    match Executor::new(host, None) {
+        Ok(executor) => run_over(rt, host, &executor, &source, request.reps, figures),
+        Err(_) => Err(failed()),
+    }
+}
+
+fn run_over<R: Host>(
+    rt: HostRuntime,
+    host: R,
+    executor: &Executor<Taker<R>, R>,
+    source: &[u8],
+    reps: usize,
+    figures: &mut Figures,
+) -> io::Result<()> {
+    for rep in 0..=reps {
+        let figure = once(rt, host, executor, source)?;
         figures.note(rep, figure)?;
     }
     Ok(())

@@ -158,11 +158,22 @@ pub(crate) fn run<R: Host>(
     request: Request,
     figures: &mut Figures,
 ) -> io::Result<()> {
-    let Ok(executor) = Executor::new(host, None) else {
-        return Err(failed());
-    };
-    for rep in 0..=request.reps {
-        let figure = once(rt, host, &executor, request.size)?;
+    match Executor::new(host, None) {
+        Ok(executor) => run_over(rt, host, &executor, request.size, request.reps, figures),
+        Err(_) => Err(failed()),
+    }
+}
+
+fn run_over<R: Host>(
+    rt: HostRuntime,
+    host: R,
+    executor: &Executor<Counter<R>, R>,
+    size: usize,
+    reps: usize,
+    figures: &mut Figures,
+) -> io::Result<()> {
+    for rep in 0..=reps {
+        let figure = once(rt, host, executor, size)?;
         figures.note(rep, figure)?;
     }
     Ok(())
