@@ -4,10 +4,10 @@ import re
 from dataclasses import dataclass
 
 from .public import public
-from .quote import block, by_file, caller, joined, quoted
+from .quote import block, by_file, caller, joined, member_lines, quoted
 from .source import CRATES, Unknown
 
-MARK = re.compile(r"<!-- quoted: (?P<what>.+?) -->\n(?P<text>.*?)<!-- end -->", re.S)
+MARK = re.compile(r"<!-- quoted: (?P<what>.+?) -->\n(?P<text>(?:(?!<!-- quoted).)*?)<!-- end -->", re.S)
 # What stands between marks alone.
 MARKED = re.compile(r"^(?:```rust|<!-- quoted|<!-- end)", re.M)
 
@@ -18,7 +18,7 @@ class Unfit(Exception):
 
 @dataclass
 class Quote:
-    """What is to stand between two marks: all of it, and its lines by the words of the mark."""
+    """What is to stand between two marks: all of it, and the lines of each item or member."""
 
     lines: list
     parts: dict
@@ -46,6 +46,12 @@ def looked_up(crate, word):
     return items[name], members.split(",") if members else []
 
 
+def parts_of(word, item, members):
+    """The lines of an item that a word names, or of each member that it names."""
+    name = word.partition(".")[0]
+    return {f"{name}.{member}": member_lines(item, member) for member in members} if members else {name: quoted(item)}
+
+
 def quote_of(crate, what):
     """What is quoted by a mark: parts of a program that calls, or items."""
     if what.startswith("caller "):
@@ -53,11 +59,10 @@ def quote_of(crate, what):
         lines = caller(path, names)
         return Quote(joined([[linked(path)], lines]), {f"the caller of {path}": lines})
     found = [(word, *looked_up(crate, word)) for word in what.split()]
-    blocks, parts = [], {}
+    blocks = []
     for file, quotes in by_file((item.file, word, quoted(item, members)) for word, item, members in found):
         blocks += [[linked(file)], block(joined(quotes.values()))]
-        parts |= quotes
-    return Quote(joined(blocks), parts)
+    return Quote(joined(blocks), {name: lines for triple in found for name, lines in parts_of(*triple).items()})
 
 
 def rewritten(crate):

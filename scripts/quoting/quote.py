@@ -168,15 +168,25 @@ def quoted_trait(part):
     return first_sentence(part) + (in_impl(head, members(part)) if head[-1].endswith("{") else head)
 
 
+def with_members(item):
+    """The trait, or each impl of the type: its head, and its members with their names."""
+    part = item.part
+    return [(type_head(part), list(members(part)))] if part.kind == "trait" else [(head, inner) for _, head, inner in impls(item)]
+
+
 def quoted_members(item, names):
     """These members alone of a type or a trait, each under the head of what it stands in."""
-    part = item.part
-    heads = [(type_head(part), list(members(part)))] if part.kind == "trait" else [(head, inner) for _, head, inner in impls(item)]
-    kept = [(head, [(name, lines) for name, lines in inner if name in names]) for head, inner in heads]
-    missing = set(names) - {name for _, inner in kept for name, _ in inner}
-    if missing:
-        raise Unknown(f"{part.name} has no member {', '.join(sorted(missing))}")
+    kept = [(head, [(name, lines) for name, lines in inner if name in names]) for head, inner in with_members(item)]
     return spaced(in_impl(head, inner) for head, inner in kept if inner)
+
+
+def member_lines(item, wanted):
+    """The lines of a member, as they stand in such a quote."""
+    found = (indented(lines) for _, inner in with_members(item) for name, lines in inner if name == wanted)
+    lines = next(found, None)
+    if lines is None:
+        raise Unknown(f"{item.part.name} has no member {wanted}")
+    return lines
 
 
 def quoted(item, names=()):
