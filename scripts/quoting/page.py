@@ -7,7 +7,7 @@ from .public import public
 from .quote import block, by_file, caller, joined, member_lines, quoted
 from .source import CRATES, Unknown
 
-MARK = re.compile(r"<!-- quoted: (?P<what>.+?) -->\n(?P<text>(?:(?!<!-- quoted).)*?)<!-- end -->", re.S)
+MARK = re.compile(r"<!-- quoted: (?P<what>[^\n]+?) -->\n(?P<text>(?:(?!<!-- quoted).)*?)<!-- end -->", re.S)
 # What stands between marks alone.
 MARKED = re.compile(r"^(?:```rust|<!-- quoted|<!-- end)", re.M)
 
