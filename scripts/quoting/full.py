@@ -8,7 +8,7 @@ from .quote import block, by_file, caller, joined, quoted
 
 BEGIN = """# Contracts of `{crate}`
 
-Written from the sources by `scripts/quote-contracts`. How to read a contract is said in `crates/blocking/CALLING.md`."""
+`scripts/quote-contracts` wrote this page from the sources. `crates/blocking/CALLING.md` says how to read a contract."""
 
 
 def named(file):
