@@ -101,17 +101,15 @@ def member(part):
     return function(part) if part.kind == "fn" else first_sentence(part) + list(part.lines)
 
 
-def trait(part):
-    """A trait with its members."""
-    head = type_head(part)
-    if not head[-1].endswith("{"):
-        return first_sentence(part) + head
-    return first_sentence(part) + enclosed(head, spaced(member(inner) for inner in part.inner() if inner.kind != "ghost use"))
+def members(part):
+    """The members of a trait, with their names."""
+    if type_head(part)[-1].endswith("{"):
+        yield from ((inner.name, member(inner)) for inner in part.inner() if inner.kind != "ghost use")
 
 
 def own_members(part):
-    """What an impl that is of no trait gives to users."""
-    return [function(inner) for inner in part.inner() if inner.kind == "fn" and inner.is_public]
+    """What an impl that is of no trait gives to users, with the names."""
+    return [(inner.name, function(inner)) for inner in part.inner() if inner.kind == "fn" and inner.is_public]
 
 
 def members_of_trait(part, name):
@@ -119,13 +117,13 @@ def members_of_trait(part, name):
     for inner in part.inner() if type_head(part)[-1].endswith("{") else ():
         if name == "Model":
             if inner.name == "Value":
-                yield list(inner.lines)
+                yield inner.name, list(inner.lines)
         elif name.startswith("Carries"):
             return
         elif inner.kind in ("ghost", "type"):
-            yield list(inner.lines)
+            yield inner.name, list(inner.lines)
         elif inner.kind == "fn" and has_contract(inner):
-            yield signature(inner)
+            yield inner.name, signature(inner)
 
 
 def is_of(part, item):
@@ -142,42 +140,84 @@ def files_of(item):
 
 
 def impls(item):
-    """The impls of a type: the lines of those that say something, and the traits of those that don't."""
-    blocks, bare = [], []
+    """The impls of a type, each with its trait, its head, and what it says, with the names."""
     for file in files_of(item):
         for part in declared(file):
-            if not is_of(part, item):
-                continue
-            name = impl_of(" ".join(part.lines)).trait
-            inner = list(members_of_trait(part, name)) if name else own_members(part)
-            if inner:
-                blocks.append(enclosed(type_head(part), spaced(inner)))
-            elif name:
-                bare.append(name)
-    return blocks, bare
+            if is_of(part, item):
+                name = impl_of(" ".join(part.lines)).trait
+                yield name, type_head(part), list(members_of_trait(part, name)) if name else own_members(part)
+
+
+def in_impl(head, inner):
+    """An impl or a trait with these members."""
+    return enclosed(head, spaced(lines for _, lines in inner))
 
 
 def quoted_type(item):
     """A type with all that is had of it."""
-    blocks, bare = impls(item)
-    lines = spaced([struct(item.part) if item.part.kind == "struct" else enum(item.part), *blocks])
+    of_type = struct(item.part) if item.part.kind == "struct" else enum(item.part)
+    found = list(impls(item))
+    bare = [name for name, _, inner in found if name and not inner]
+    lines = spaced([of_type, *(in_impl(head, inner) for _, head, inner in found if inner)])
     return [*lines, f"// Besides: {', '.join(bare)}"] if bare else lines
 
 
-def quoted(item):
-    """The lines of an item."""
+def quoted_trait(part):
+    """A trait with its members."""
+    head = type_head(part)
+    return first_sentence(part) + (in_impl(head, members(part)) if head[-1].endswith("{") else head)
+
+
+def with_members(item):
+    """The trait, or each impl of the type: its head, and its members with their names."""
     part = item.part
+    return [(type_head(part), list(members(part)))] if part.kind == "trait" else [(head, inner) for _, head, inner in impls(item)]
+
+
+def quoted_members(item, names):
+    """These members alone of a type or a trait, each under the head of what it stands in."""
+    kept = [(head, [(name, lines) for name, lines in inner if name in names]) for head, inner in with_members(item)]
+    return spaced(in_impl(head, inner) for head, inner in kept if inner)
+
+
+def member_lines(item, wanted):
+    """The lines of a member, as they stand in such a quote."""
+    found = (indented(lines) for _, inner in with_members(item) for name, lines in inner if name == wanted)
+    lines = next(found, None)
+    if lines is None:
+        raise Unknown(f"{item.part.name} has no member {wanted}")
+    return lines
+
+
+def quoted(item, names=()):
+    """The lines of an item, or of these of its members alone."""
+    part = item.part
+    if names:
+        return quoted_members(item, names)
     if part.kind in ("struct", "enum"):
         return quoted_type(item)
     if part.kind == "trait":
-        return trait(part)
+        return quoted_trait(part)
     return function(part) if part.kind == "fn" else first_sentence(part) + list(part.lines)
 
 
-def link_to(file):
-    """The name of a source as a link, from a page in a crate's folder."""
-    name = file.relative_to(CRATES)
-    return f"[`{name}`](../{name})"
+def by_file(quotes):
+    """Quotes, each given with its source and its name, that stand in a row in one source: the source, and the lines by the names."""
+    runs = []
+    for file, name, lines in quotes:
+        path = file.relative_to(CRATES)
+        if not runs or runs[-1][0] != path:
+            runs.append((path, {}))
+        runs[-1][1][name] = lines
+    return runs
+
+
+def joined(blocks):
+    """Blocks of lines, with an empty one between two of them."""
+    lines = []
+    for inner in blocks:
+        lines += [""] * bool(lines) + list(inner)
+    return lines
 
 
 def block(lines):
@@ -197,9 +237,8 @@ def is_used_by_caller(part, names):
 
 def caller(path, names):
     """What has these names in a source, as it stands there."""
-    file = CRATES / path
-    parts = [part for part in declared(file) if is_used_by_caller(part, names)]
+    parts = [part for part in declared(CRATES / path) if is_used_by_caller(part, names)]
     missing = set(names) - {part.name for part in parts} - {"use"}
     if missing:
         raise Unknown(f"{path} has no {', '.join(sorted(missing))}")
-    return [f"From {link_to(file)}:", "", *block(spaced(whole_part(part) for part in parts))]
+    return block(spaced(whole_part(part) for part in parts))
