@@ -1,12 +1,13 @@
 //! Copies of files.
 use crate::folder::{folder, now};
-use blocking::Host;
+use blocking::{Host, Runtime};
 use blocking_files::{CarriesFiles, Files};
 use futures::executor::block_on;
 use std::alloc::{AllocError, Global};
 use std::io::ErrorKind;
 use std::os::unix::fs::PermissionsExt;
 use std::path::Path;
+use std::random::RandomSource;
 use std::test::Fail;
 use std::{fs, io};
 
@@ -22,7 +23,7 @@ fn numbered(alloc: Global, count: usize) -> Result<Vec<u8>, AllocError> {
 }
 
 // Copies a file of so many bytes: whether all of it is told and is there, with its permissions.
-fn copy<H: Host, J: CarriesFiles<H>>(
+fn copy<H: Runtime + RandomSource, J: CarriesFiles<H>>(
     rt: H,
     system: HostRuntime,
     files: &Files<H, J>,
@@ -39,7 +40,7 @@ fn copy<H: Host, J: CarriesFiles<H>>(
 }
 
 // How a copy failed.
-fn fault<H: Host, J: CarriesFiles<H>>(
+fn fault<H: Runtime + RandomSource, J: CarriesFiles<H>>(
     rt: H,
     files: &Files<H, J>,
     (from, to): (Path<'_>, Path<'_>),
@@ -52,7 +53,7 @@ fn fault<H: Host, J: CarriesFiles<H>>(
 }
 
 // Copies files, one to itself and a folder: how many of the copies are whole, and how the last two failed.
-fn copy_all<H: Host, J: CarriesFiles<H>>(
+fn copy_all<H: Runtime + RandomSource, J: CarriesFiles<H>>(
     rt: H,
     system: HostRuntime,
     files: &Files<H, J>,

@@ -1,14 +1,15 @@
 //! The program of the crate's page.
 use crate::folder::folder;
-use blocking::{AsyncWriteExt, Host};
+use blocking::{AsyncWriteExt, Host, Runtime};
 use blocking_files::{CarriesFiles, Files};
 use futures::executor::block_on;
 use std::path::Path;
+use std::random::RandomSource;
 use std::test::Fail;
 use std::{fs, io};
 
 // Writes two notes, and gives what stands in the second, and how many bytes the first has.
-fn notes<H: Host, J: CarriesFiles<H>>(
+fn notes<H: Runtime + RandomSource, J: CarriesFiles<H>>(
     rt: H,
     files: &Files<H, J>,
     folder: Path<'_>,
@@ -23,7 +24,7 @@ fn notes<H: Host, J: CarriesFiles<H>>(
 }
 
 // Writes a note by pieces, and has it on the disk.
-fn write_second<H: Host, J: CarriesFiles<H>>(
+fn write_second<H: Runtime + RandomSource, J: CarriesFiles<H>>(
     rt: H,
     files: &Files<H, J>,
     path: Path<'_>,

@@ -2,18 +2,19 @@
 use crate::folder::{folder, now};
 use blocking::{
     AsyncRead, AsyncReadExt, AsyncSeek, AsyncSeekExt, AsyncWrite, AsyncWriteExt, Executor, Host,
-    set_max_blocking_threads,
+    Runtime, set_max_blocking_threads,
 };
 use blocking_files::{CarriesFiles, File, FileJob, Files};
 use futures::executor::block_on;
 use std::fs::OpenOptions;
 use std::io::{ErrorKind, SeekFrom};
 use std::path::Path;
+use std::random::RandomSource;
 use std::test::Fail;
 use std::{fs, io};
 
 // Writes what is read later, and flushes.
-fn write<A: AsyncWrite, H: Host>(rt: H, file: &mut A) -> io::Result<()>
+fn write<A: AsyncWrite, H: Runtime + RandomSource>(rt: H, file: &mut A) -> io::Result<()>
     requires { (any : A) → A.closed any → ⊥ }
 {
     block_on(&rt, file.write_all(b"oaks and "))??;
@@ -23,7 +24,10 @@ fn write<A: AsyncWrite, H: Host>(rt: H, file: &mut A) -> io::Result<()>
 }
 
 // Moves to the middle, and reads what stands there.
-fn read_middle<A: AsyncRead + AsyncSeek, H: Host>(rt: H, file: &mut A) -> io::Result<(u64, [u8; 3])>
+fn read_middle<A: AsyncRead + AsyncSeek, H: Runtime + RandomSource>(
+    rt: H,
+    file: &mut A,
+) -> io::Result<(u64, [u8; 3])>
     requires reader { (any : A) → A.AsyncRead.closed any → ⊥ }
     requires seeker { (any : A) → A.AsyncSeek.closed any → ⊥ }
 {
@@ -34,14 +38,17 @@ fn read_middle<A: AsyncRead + AsyncSeek, H: Host>(rt: H, file: &mut A) -> io::Re
 }
 
 // Cuts all but four bytes off, and has it on the disk.
-fn cut<H: Host, J: CarriesFiles<H>>(rt: H, file: &mut File<H, J>) -> io::Result<()> {
+fn cut<H: Runtime + RandomSource, J: CarriesFiles<H>>(
+    rt: H,
+    file: &mut File<H, J>,
+) -> io::Result<()> {
     now(&rt, file.set_len(4))?;
     now(&rt, file.sync_data())?;
     now(&rt, file.sync_all())
 }
 
 // Moves to the end, writes once more, and closes: where the end was, and how the close failed.
-fn move_and_close<A: AsyncWrite + AsyncSeek, H: Host>(
+fn move_and_close<A: AsyncWrite + AsyncSeek, H: Runtime + RandomSource>(
     rt: H,
     file: &mut A,
 ) -> io::Result<(u64, ErrorKind)>
@@ -66,7 +73,10 @@ struct Seen {
     after: (u64, u64),
 }
 
-fn use_file<H: Host, J: CarriesFiles<H>>(rt: H, file: &mut File<H, J>) -> io::Result<Seen> {
+fn use_file<H: Runtime + RandomSource, J: CarriesFiles<H>>(
+    rt: H,
+    file: &mut File<H, J>,
+) -> io::Result<Seen> {
     write(rt, file)?;
     let length = now(&rt, file.metadata())?.len();
     let middle = read_middle(rt, file)?;
@@ -82,7 +92,7 @@ fn use_file<H: Host, J: CarriesFiles<H>>(rt: H, file: &mut File<H, J>) -> io::Re
     })
 }
 
-fn open_and_use<H: Host, J: CarriesFiles<H>>(
+fn open_and_use<H: Runtime + RandomSource, J: CarriesFiles<H>>(
     rt: H,
     files: &Files<H, J>,
     path: Path<'_>,
@@ -122,7 +132,7 @@ fn one_file_is_written_moved_read_and_cut(rt: HostRuntime) -> Result<(), Fail> {
 }
 
 // Writes to a file that is open for reading alone: whether a sync fails, and whether a flush after it does.
-fn write_to_a_reader<H: Host, J: CarriesFiles<H>>(
+fn write_to_a_reader<H: Runtime + RandomSource, J: CarriesFiles<H>>(
     rt: H,
     files: &Files<H, J>,
     path: Path<'_>,

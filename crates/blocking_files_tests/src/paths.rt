@@ -1,6 +1,6 @@
 //! Calls on paths. They are made over any job type that carries them, which costs less to prove, and then over a pool.
 use crate::folder::{folder, now};
-use blocking::{CallJob, Carries, Host, Job};
+use blocking::{CallJob, Carries, Host, Job, Runtime};
 use blocking_files::{CarriesFiles, Change, Files, Look};
 use futures::executor::block_on;
 use futures::{Stream, StreamExt};
@@ -8,6 +8,7 @@ use std::fs::DirEntry;
 use std::io::ErrorKind;
 use std::os::unix::fs::symlink;
 use std::path::Path;
+use std::random::RandomSource;
 use std::test::Fail;
 use std::{fs, io};
 
@@ -20,7 +21,7 @@ fn kind_of<T>(answer: &io::Result<T>) -> Option<ErrorKind> {
 }
 
 // Writes a file twice: what it has then, as bytes and as text, and how many bytes those are.
-fn write_and_read<H: Host, J: CarriesFiles<H>>(
+fn write_and_read<H: Runtime + RandomSource, J: CarriesFiles<H>>(
     rt: H,
     files: &Files<H, J>,
     path: Path<'_>,
@@ -34,7 +35,7 @@ fn write_and_read<H: Host, J: CarriesFiles<H>>(
 }
 
 // Writes what is no text, renames and removes it: how it fails to be read as text, and to be read under its first name.
-fn rename_and_remove<H: Host, J: CarriesFiles<H>>(
+fn rename_and_remove<H: Runtime + RandomSource, J: CarriesFiles<H>>(
     rt: H,
     files: &Files<H, J>,
     path: Path<'_>,
@@ -82,7 +83,7 @@ fn files_are_written_read_renamed_and_removed(rt: HostRuntime) -> Result<(), Fai
 }
 
 // Makes a folder in others that aren't there, and once more: how that failed with nothing to stand in, and where it was there.
-fn make<H: Host, J: CarriesFiles<H>>(
+fn make<H: Runtime + RandomSource, J: CarriesFiles<H>>(
     rt: H,
     files: &Files<H, J>,
     deep: Path<'_>,
@@ -94,7 +95,7 @@ fn make<H: Host, J: CarriesFiles<H>>(
 }
 
 // Whether a link is looked at, and whether what it leads to is. (over any job type that carries such a look)
-fn look<H: Host, J: Job + Carries<CallJob<Look, H>>>(
+fn look<H: Runtime + RandomSource, J: Job + Carries<CallJob<Look, H>>>(
     rt: H,
     files: &Files<H, J>,
     link: Path<'_>,
@@ -106,7 +107,7 @@ fn look<H: Host, J: Job + Carries<CallJob<Look, H>>>(
 }
 
 // How many entries come, of which each is `a` or `link`.
-fn count<S: Stream<Item = io::Result<DirEntry>>, H: Host>(
+fn count<S: Stream<Item = io::Result<DirEntry>>, H: Runtime + RandomSource>(
     rt: H,
     entries: &mut S,
 ) -> io::Result<usize>
@@ -124,7 +125,7 @@ fn count<S: Stream<Item = io::Result<DirEntry>>, H: Host>(
     Ok(count)
 }
 
-fn list<H: Host, J: CarriesFiles<H>>(
+fn list<H: Runtime + RandomSource, J: CarriesFiles<H>>(
     rt: H,
     files: &Files<H, J>,
     folder: Path<'_>,
@@ -134,7 +135,7 @@ fn list<H: Host, J: CarriesFiles<H>>(
 }
 
 // Removes folders: how that failed for one that isn't empty. (over any job type that carries such a change)
-fn remove<H: Host, J: Job + Carries<CallJob<Change, H>>>(
+fn remove<H: Runtime + RandomSource, J: Job + Carries<CallJob<Change, H>>>(
     rt: H,
     files: &Files<H, J>,
     outer: Path<'_>,
@@ -155,7 +156,7 @@ struct Seen {
     full: Option<ErrorKind>,
 }
 
-fn use_folder<H: Host, J: CarriesFiles<H>>(
+fn use_folder<H: Runtime + RandomSource, J: CarriesFiles<H>>(
     rt: H,
     system: HostRuntime,
     files: &Files<H, J>,
