@@ -156,7 +156,6 @@ impl Starter for Starts {
 }
 
 /// A pipe over a store, and a pool whose jobs use it: their notes are spent there.
-#[derive(Drop)]
 pub(super) struct Bench<S: CopyStore<u8>> {
     pub(super) pipe: Pipe<u8, u8, S>,
     // What the job puts a piece from, what it was lent, and what stands ready of the owner.
@@ -165,6 +164,35 @@ pub(super) struct Bench<S: CopyStore<u8>> {
     ready: Vec<u8>,
     pool: Pool<Idle>,
     jobs: Vec<JobNo>,
+}
+
+// By hand, since a derived drop is proved anew wherever a bench goes.
+impl<S: CopyStore<u8>> Drop for Bench<S> {
+    fn drop(self) {
+        let Bench {
+            pipe: _pipe,
+            piece: _piece,
+            hand: _hand,
+            ready: _ready,
+            pool: _pool,
+            jobs: _jobs,
+        } = self;
+    }
+}
+
+// A pool of six jobs, and their numbers.
+fn pool_and_jobs(alloc: Global) -> Option<(Pool<Idle>, Vec<JobNo>)> {
+    let mut pool = Pool::new(alloc, None);
+    let jobs = add_six(&mut pool, alloc)?;
+    Some((pool, jobs))
+}
+
+fn add_six(pool: &mut Pool<Idle>, alloc: Global) -> Option<Vec<JobNo>> {
+    let mut jobs = Vec::new(alloc);
+    for _ in 0..6 {
+        jobs.push(pool.add(Idle, &mut Starts).ok()?).ok()?;
+    }
+    Some(jobs)
 }
 
 /// Plays rows of pipes that lend pieces, each from its beginning on, and tells where one shows something else.
@@ -227,17 +255,15 @@ impl<S: CopyStore<u8>> Bench<S> {
 
     /// A bench of this pipe.
     pub(super) fn over(alloc: Global, pipe: Pipe<u8, u8, S>) -> Option<Bench<S>> {
-        let mut pool = Pool::new(alloc, None);
-        let mut jobs = Vec::new(alloc);
-        for _ in 0..6 {
-            let no = pool.add(Idle, &mut Starts).ok()?;
-            jobs.push(no).ok()?;
-        }
+        let piece = Vec::with_capacity(alloc, PIECE).ok()?;
+        let hand = Vec::with_capacity(alloc, HAND).ok()?;
+        let ready = Vec::with_capacity(alloc, PIECE).ok()?;
+        let (pool, jobs) = pool_and_jobs(alloc)?;
         Some(Bench {
             pipe,
-            piece: Vec::with_capacity(alloc, PIECE).ok()?,
-            hand: Vec::with_capacity(alloc, HAND).ok()?,
-            ready: Vec::with_capacity(alloc, PIECE).ok()?,
+            piece,
+            hand,
+            ready,
             pool,
             jobs,
         })

@@ -92,14 +92,29 @@ fn are_alike<A: CopyStore<u8>, B: CopyStore<u8>>(
     true
 }
 
+// Whether both are there, and show the same.
+fn both_are_alike<A: CopyStore<u8>, B: CopyStore<u8>>(
+    seed: u64,
+    one: Option<Bench<A>>,
+    other: Option<Bench<B>>,
+) -> bool {
+    match one {
+        Some(mut one) => match other {
+            Some(mut other) => are_alike(seed, &mut one, &mut other),
+            None => false,
+        },
+        None => false,
+    }
+}
+
 // Whether pipes over all stores show the same. (pieces of two bytes go in and come out as they are)
-fn all_are_alike(alloc: Global, seed: u64, capacity: usize) -> Option<bool> {
-    let mut ring = Bench::<RingStore>::new(alloc, capacity)?;
-    let mut flat = Bench::<FlatStore>::new(alloc, capacity)?;
-    let is_flat_alike = are_alike(seed, &mut ring, &mut flat);
-    let mut ring = Bench::<RingStore>::new(alloc, capacity)?;
-    let mut lending = lending(alloc, capacity, 2)?;
-    Some(is_flat_alike && are_alike(seed, &mut ring, &mut lending))
+fn all_are_alike(alloc: Global, seed: u64, capacity: usize) -> bool {
+    let ring = Bench::<RingStore>::new(alloc, capacity);
+    if !both_are_alike(seed, ring, Bench::<FlatStore>::new(alloc, capacity)) {
+        return false;
+    }
+    let ring = Bench::<RingStore>::new(alloc, capacity);
+    both_are_alike(seed, ring, lending(alloc, capacity, 2))
 }
 
 #[test]
@@ -108,7 +123,7 @@ fn all_stores_show_the_same(rt: HostRuntime) {
         for list in 0..LISTS {
             let number = LISTS.wrapping_mul(*capacity as u64).wrapping_add(list);
             let seed = 0x9e37_79b9_7f4a_7c15u64.wrapping_mul(number.wrapping_add(1));
-            if all_are_alike(rt.alloc(), seed, *capacity) != Some(true) {
+            if !all_are_alike(rt.alloc(), seed, *capacity) {
                 stop(&rt, "a list of calls", list as usize);
             }
         }
