@@ -8,6 +8,8 @@ STORED = Path(__file__).resolve().parents[2] / "crates" / "blk_play" / "stored"
 ARROW = " => "
 # The first words of lines that count on a time by the clock.
 CLOCKS = {"clock", "within", "passed", "tries", "sleeps", "pause"}
+# A handle of ten million bytes and more.
+LONG = re.compile(r"\b(count|cycle) \d{8,}")
 
 
 class Play:
@@ -25,6 +27,10 @@ class Play:
         """Whether a line of it counts on a time by the clock."""
         lines = [line.split(" ") for line in self.text.splitlines()]
         return any(words[0] in CLOCKS or words[0] == "repeat" and "late" in words for words in lines)
+
+    def is_long(self):
+        """Whether so many bytes move that a build without proofs takes minutes."""
+        return LONG.search(self.text) is not None
 
     def difference(self, status, shown):
         """What isn't as it must be where a run shows these lines; an empty text where all is."""
