@@ -1,10 +1,11 @@
 //! The benchmarks of calls.
 use crate::figures::{Figures, Request, each};
-use blocking::{CallJob, Executor, Host, Task, set_client_limit, unblock, unblock_for};
+use blocking::{CallJob, Executor, Host, Runtime, Task, set_client_limit, unblock, unblock_for};
 use blocking_core::task::Call;
 use futures::Future;
 use futures::executor::{block_on, block_on_queue};
 use futures::task::{Context, Doorbell, Poll, Queue};
+use std::random::RandomSource;
 use std::sync::Arc;
 use std::sync::atomic::{AtomicBool, Ordering};
 use std::time::{Duration, Instant};
@@ -121,7 +122,7 @@ impl Calls {
     }
 
     // Runs the benchmark over an existing pool.
-    fn run_over<R: Host>(
+    fn run_over<R: Runtime + RandomSource>(
         self,
         rt: HostRuntime,
         host: R,
@@ -145,7 +146,7 @@ impl Calls {
     }
 
     // What has to be there before the first call: a limit for each client, and calls of one that are held up.
-    fn prepare<R: Host>(
+    fn prepare<R: Runtime + RandomSource>(
         self,
         rt: HostRuntime,
         host: R,
@@ -165,7 +166,7 @@ impl Calls {
     }
 
     // So many calls, in the name's unit.
-    fn once<R: Host>(
+    fn once<R: Runtime + RandomSource>(
         self,
         rt: HostRuntime,
         host: R,
@@ -183,7 +184,7 @@ impl Calls {
     }
 
     // So many calls, made in this way.
-    fn call_all<R: Host>(
+    fn call_all<R: Runtime + RandomSource>(
         self,
         rt: HostRuntime,
         host: R,
@@ -218,14 +219,21 @@ fn check(answer: u64, wanted: u64) -> io::Result<()> {
     }
 }
 
-fn begun<R: Host>(executor: &Workers<R>, work: Work) -> io::Result<Task<Work, R>> {
+fn begun<R: Runtime + RandomSource>(
+    executor: &Workers<R>,
+    work: Work,
+) -> io::Result<Task<Work, R>> {
     match unblock(executor, work) {
         Ok(task) => Ok(task),
         Err(_) => Err(failed()),
     }
 }
 
-fn begun_for<R: Host>(executor: &Workers<R>, client: u32, work: Work) -> io::Result<Task<Work, R>> {
+fn begun_for<R: Runtime + RandomSource>(
+    executor: &Workers<R>,
+    client: u32,
+    work: Work,
+) -> io::Result<Task<Work, R>> {
     match unblock_for(executor, client, work) {
         Ok(task) => Ok(task),
         Err(_) => Err(failed()),
@@ -234,13 +242,13 @@ fn begun_for<R: Host>(executor: &Workers<R>, client: u32, work: Work) -> io::Res
 
 // The calls of a client of which one may run: the first sleeps until they are let go, and the others are queued behind it.
 #[derive(Drop)]
-struct HeldUp<R: Host> {
+struct HeldUp<R: Runtime> {
     flag: Arc<AtomicBool>,
     first: Task<Work, R>,
     tasks: Vec<Task<Work, R>>,
 }
 
-impl<R: Host> HeldUp<R> {
+impl<R: Runtime + RandomSource> HeldUp<R> {
     fn begin(rt: HostRuntime, host: R, executor: &Workers<R>) -> io::Result<HeldUp<R>> {
         let flag = Arc::new(host.alloc(), AtomicBool::new(false))?;
         let until = Work::Until(rt, Arc::try_clone(&flag)?);
@@ -264,7 +272,7 @@ impl<R: Host> HeldUp<R> {
 }
 
 // Waits until no job is queued.
-fn await_taken<R: Host>(host: R, executor: &Workers<R>) {
+fn await_taken<R: Runtime + RandomSource>(host: R, executor: &Workers<R>) {
     for _ in host.forever() {
         if executor.counts().queued == 0 {
             return;
@@ -274,7 +282,11 @@ fn await_taken<R: Host>(host: R, executor: &Workers<R>) {
 }
 
 // Makes a call, which is to answer 42, and awaits it through a queue of tasks.
-fn call_by<R: Host>(host: R, executor: &Workers<R>, queue: &Queue) -> io::Result<()> {
+fn call_by<R: Runtime + RandomSource>(
+    host: R,
+    executor: &Workers<R>,
+    queue: &Queue,
+) -> io::Result<()> {
     let task = begun(executor, Work::Succeed(41))?;
     if task.is_taken() {
         return Err(failed());
@@ -282,7 +294,7 @@ fn call_by<R: Host>(host: R, executor: &Workers<R>, queue: &Queue) -> io::Result
     check(block_on_queue(&host, queue, task)?, 42)
 }
 
-fn call_in_turn<R: Host>(
+fn call_in_turn<R: Runtime + RandomSource>(
     host: R,
     executor: &Workers<R>,
     queue: &Queue,
@@ -295,7 +307,7 @@ fn call_in_turn<R: Host>(
 }
 
 // One call of a client after another, each awaited by a `block_on` of its own.
-fn roundtrip<R: Host>(
+fn roundtrip<R: Runtime + RandomSource>(
     rt: &HostRuntime,
     host: R,
     executor: &Workers<R>,
@@ -318,7 +330,11 @@ fn roundtrip<R: Host>(
 }
 
 // One call after another, all awaited through one queue of tasks, which is what `block_on` makes anew each time.
-fn roundtrip_await<R: Host>(host: R, executor: &Workers<R>, size: usize) -> io::Result<()> {
+fn roundtrip_await<R: Runtime + RandomSource>(
+    host: R,
+    executor: &Workers<R>,
+    size: usize,
+) -> io::Result<()> {
     let queue = Queue::new(&host, Doorbell::parking())?;
     let _hold = queue.hold()?;
     call_in_turn(host, executor, &queue, size)
@@ -326,14 +342,14 @@ fn roundtrip_await<R: Host>(host: R, executor: &Workers<R>, size: usize) -> io::
 
 // Tasks that are polled to their ends in order, the one that is next by its place.
 #[derive(Drop)]
-struct InOrder<R: Host> {
+struct InOrder<R: Runtime> {
     tasks: Vec<Task<Work, R>>,
     next: usize,
     // What each is to answer; none stands for one more than its place.
     wanted: Option<u64>,
 }
 
-impl<R: Host> Future for InOrder<R> {
+impl<R: Runtime> Future for InOrder<R> {
     type Output = io::Result<()>;
 
     fn poll(&mut self, cx: &mut Context<'_>) -> Poll<io::Result<()>> {
@@ -357,7 +373,12 @@ impl<R: Host> Future for InOrder<R> {
 }
 
 // All calls first, spread over so many clients from client 0 on, then each answer in order, in one `block_on`.
-fn burst<R: Host>(host: R, executor: &Workers<R>, clients: u32, size: usize) -> io::Result<()> {
+fn burst<R: Runtime + RandomSource>(
+    host: R,
+    executor: &Workers<R>,
+    clients: u32,
+    size: usize,
+) -> io::Result<()> {
     let mut tasks = Vec::with_capacity(host.alloc(), size)?;
     for n in 0..size {
         let number = u32::try_from(n).unwrap_or(0);
@@ -368,7 +389,7 @@ fn burst<R: Host>(host: R, executor: &Workers<R>, clients: u32, size: usize) -> 
 }
 
 // Calls that sleep, all at once.
-fn sleepers<R: Host>(
+fn sleepers<R: Runtime + RandomSource>(
     rt: HostRuntime,
     host: R,
     executor: &Workers<R>,
@@ -381,7 +402,11 @@ fn sleepers<R: Host>(
     await_all(host, tasks, Some(MILLIS))
 }
 
-fn await_all<R: Host>(host: R, tasks: Vec<Task<Work, R>>, wanted: Option<u64>) -> io::Result<()> {
+fn await_all<R: Runtime + RandomSource>(
+    host: R,
+    tasks: Vec<Task<Work, R>>,
+    wanted: Option<u64>,
+) -> io::Result<()> {
     let in_order = InOrder {
         tasks,
         next: 0,

@@ -4,10 +4,11 @@ ghost use Rattle.std.specs.Prelude.{◌<◌};
 use crate::figures::{Figures, Request, rate};
 use crate::pipe::{failed, pattern};
 use crate::reading::{ReadPlan, read_by};
-use blocking::{Executor, Host, ReadJob};
+use blocking::{Executor, Host, ReadJob, Runtime};
 use blocking_core::pipe::DEFAULT_BYTES;
 use std::fs::File;
 use std::io::Read;
+use std::random::RandomSource;
 use std::sync::Arc;
 use std::{fs, io};
 
@@ -94,7 +95,7 @@ impl Reads {
     }
 
     // Runs the request's sessions, each with a new reader.
-    fn measure_over<R: Host>(
+    fn measure_over<R: Runtime + RandomSource>(
         self,
         rt: HostRuntime,
         executor: &Executor<ReadJob<Reader, R>, R>,

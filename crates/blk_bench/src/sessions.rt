@@ -7,9 +7,10 @@ use crate::reading::{ReadPlan, read_by};
 use crate::reads::Reader;
 use crate::writes::Memory;
 use crate::writing::{WritePlan, write_by};
-use blocking::{Executor, Host, ReadJob, WriteJob};
+use blocking::{Executor, Host, ReadJob, Runtime, WriteJob};
 use blocking_core::pipe::DEFAULT_BYTES;
 use std::io;
+use std::random::RandomSource;
 use std::sync::Arc;
 
 // How many bytes one session reads or writes.
@@ -70,7 +71,7 @@ fn write_all<R: Host>(
 }
 
 // Runs the request's sessions, with one owner a repetition.
-fn write_over<R: Host>(
+fn write_over<R: Runtime + RandomSource>(
     rt: HostRuntime,
     executor: &Executor<WriteJob<Memory, R>, R>,
     bytes: &Arc<Vec<u8>>,
@@ -106,7 +107,7 @@ fn read_all<R: Host>(
 }
 
 // Runs the request's sessions, with one owner a repetition.
-fn read_over<R: Host>(
+fn read_over<R: Runtime + RandomSource>(
     rt: HostRuntime,
     executor: &Executor<ReadJob<Reader, R>, R>,
     bytes: &Arc<Vec<u8>>,

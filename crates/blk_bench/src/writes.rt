@@ -4,11 +4,12 @@ ghost use Rattle.std.specs.Prelude.{◌<◌};
 use crate::figures::{Figures, Request, rate};
 use crate::pipe::{failed, pattern};
 use crate::writing::{WritePlan, write_by};
-use blocking::{Executor, Host, WriteJob};
+use blocking::{Executor, Host, Runtime, WriteJob};
 use blocking_core::pipe::DEFAULT_BYTES;
 use std::alloc::{AllocError, Global};
 use std::io;
 use std::io::Write;
+use std::random::RandomSource;
 use std::sync::Arc;
 
 /// What is written. The pipe of a session is for a default of bytes, for 65,536 or for 4,096.
@@ -81,7 +82,7 @@ impl Writes {
     }
 
     // Runs the request's sessions, each into a new vector.
-    fn measure_over<R: Host>(
+    fn measure_over<R: Runtime + RandomSource>(
         self,
         rt: HostRuntime,
         executor: &Executor<WriteJob<Memory, R>, R>,

@@ -10,12 +10,22 @@ use blocking_world_laws::HandleCall;
 use std::alloc::{AllocError, Global};
 
 /// An instruction: what a line has the script do.
-#[derive(Debug, Drop)]
+#[derive(Debug)]
 pub enum Instruction {
     /// One step.
     One(Step),
     /// The next action of this actor, and then again while it has one.
     AllOf(Actor),
+}
+
+// By hand, since a crate that drops one would prove a derived drop anew.
+impl Drop for Instruction {
+    fn drop(self) {
+        match self {
+            Instruction::One(step) => drop(step),
+            Instruction::AllOf(_) => {}
+        }
+    }
 }
 
 /// Who acts by itself, action by action.

@@ -170,11 +170,49 @@ impl Waiting {
     }
 }
 
+// Where the handle that gave is behind what the other took, from these places on; None where a byte is another.
+fn place_behind(reader: &Track, writer: &Track, (from, to): (usize, usize)) -> Option<usize> {
+    let mut place = from;
+    for taken in to..writer.took.len() {
+        let took = writer.took.get(taken);
+        if took.is_some() && took != reader.gave.get(place) {
+            return None;
+        }
+        place = place.saturating_add(1);
+    }
+    Some(place)
+}
+
+// What is wrong with a copy that began at these places.
+fn breach_of(
+    reader: &Track,
+    writer: &Track,
+    places: (usize, usize),
+    copying: Copying,
+) -> Option<Breach> {
+    let Some(place) = place_behind(reader, writer, places) else {
+        return Some("a copy wrote another byte than was read");
+    };
+    let (gave, took) = (
+        reader.gave.len(),
+        writer.took.len().saturating_sub(places.1),
+    );
+    match copying {
+        Copying::Copied(count) if place != gave || took as u64 != count => {
+            Some("a copy was done before all was written")
+        }
+        _ if place > gave => Some("a copy wrote more than was read"),
+        _ => None,
+    }
+}
+
 /// A copier.
 #[derive(Drop)]
 pub(crate) struct Copied<C: Drop> {
     /// None once it was dropped.
     pub copier: Option<C>,
+    /// How many bytes its writer took.
+    pub count: u64,
     pub waker: MockTask,
     pub reader: Arc<Track>,
     pub writer: Arc<Track>,
@@ -184,14 +222,22 @@ pub(crate) struct Copied<C: Drop> {
 
 impl<C: Copies> Copied<C> {
     fn poll(&mut self) -> Copying {
-        match &mut self.copier {
-            Some(copier) => copier.poll(&self.waker),
-            None => Copying::Nothing,
+        let Some(copier) = &mut self.copier else {
+            return Copying::Nothing;
+        };
+        let (copying, count) = copier.poll(&self.waker);
+        if copying != Copying::Nothing {
+            self.count = count;
         }
+        copying
     }
 
     fn copied(&self) -> Option<u64> {
-        self.copier.as_ref().map(|copier| copier.copied())
+        if self.copier.is_some() {
+            Some(self.count)
+        } else {
+            None
+        }
     }
 
     // Polls after each wake, until `count` bytes are copied and the copier waits.
@@ -211,24 +257,9 @@ impl<C: Copies> Copied<C> {
 
     // What the writer took is a first part of what the reader gave; all of it where the copy is done.
     fn breach(&self, copying: Copying) -> Option<Breach> {
-        let (from, to) = self.places?;
-        let took = self.writer.took.len();
-        let mut place = from;
-        for taken in to..took {
-            if self.writer.took.get(taken).is_some()
-                && self.writer.took.get(taken) != self.reader.gave.get(place)
-            {
-                return Some("a copy wrote another byte than was read");
-            }
-            place = place.saturating_add(1);
-        }
-        let gave = self.reader.gave.len();
-        match copying {
-            Copying::Copied(count) if place != gave || took.saturating_sub(to) as u64 != count => {
-                Some("a copy was done before all was written")
-            }
-            _ if place > gave => Some("a copy wrote more than was read"),
-            _ => None,
+        match self.places {
+            Some(places) => breach_of(&self.reader, &self.writer, places, copying),
+            None => None,
         }
     }
 

@@ -17,27 +17,24 @@ pub(crate) struct Linked<J: Job, H: Runtime> {
 fn polled<A: AsyncRead + Drop, B: AsyncWrite + Drop>(
     copier: &mut Copier<A, B>,
     task: &MockTask,
-) -> Copying
+) -> (Copying, u64)
     requires { ⟦<Copier<A, B> as Future>⟧.can_poll copier.old }
 {
-    match task.poll(copier) {
+    let copying = match task.poll(copier) {
         Poll::Pending => Copying::Waits,
         Poll::Ready(Ok(count)) => Copying::Copied(count),
         Poll::Ready(Err(CopyFault::Reading(fault))) => Copying::ReadFailed(why_of(&fault)),
         Poll::Ready(Err(CopyFault::Writing(fault))) => Copying::WriteFailed(why_of(&fault)),
-    }
+    };
+    (copying, copier.copied())
 }
 
 impl<J: Carrier<H>, H: Runtime + Drop> Copies for Linked<J, H> {
-    fn poll(&mut self, task: &MockTask) -> Copying {
+    fn poll(&mut self, task: &MockTask) -> (Copying, u64) {
         if self.copier.is_done() {
-            return Copying::Nothing;
+            return (Copying::Nothing, 0);
         }
         polled(&mut self.copier, task)
-    }
-
-    fn copied(&self) -> u64 {
-        self.copier.copied()
     }
 
     fn take_apart(self) {

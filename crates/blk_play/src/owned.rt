@@ -24,6 +24,15 @@ pub(crate) struct Owned<O: Drop> {
     pub rest_from: Option<usize>,
 }
 
+/// What is asked of an owner.
+#[derive(Clone, Copy)]
+pub(crate) enum OwnerAct<'a> {
+    /// What a line shows.
+    Play(&'a OwnerLine),
+    /// What is wrong with it is noted, since its session was refused.
+    CompareRefused,
+}
+
 /// What came of a poll.
 pub(crate) fn shown(came: Poll<Reply>, room: &[u8]) -> Shown {
     match came {
@@ -267,8 +276,19 @@ impl<O: Owner> Owned<O> {
         }
     }
 
-    /// Checks an owner whose session was refused: it has its handle, and its text says so.
-    pub(crate) fn compares_refused(&mut self, desk: &mut Desk) -> io::Result<()> {
+    /// Does what is asked, and returns what a line shows.
+    pub(crate) fn act(&mut self, act: OwnerAct<'_>, desk: &mut Desk) -> io::Result<Shown> {
+        match act {
+            OwnerAct::Play(line) => self.play(line, desk),
+            OwnerAct::CompareRefused => {
+                self.compares_refused(desk)?;
+                Ok(NOTHING)
+            }
+        }
+    }
+
+    // Checks an owner whose session was refused: it has its handle, and its text says so.
+    fn compares_refused(&mut self, desk: &mut Desk) -> io::Result<()> {
         let Some(owner) = &mut self.owner else {
             return Ok(());
         };
@@ -407,8 +427,8 @@ impl<O: Owner> Owned<O> {
         })
     }
 
-    /// What a line shows.
-    pub(crate) fn play(&mut self, line: &OwnerLine, desk: &mut Desk) -> io::Result<Shown> {
+    // What a line shows.
+    fn play(&mut self, line: &OwnerLine, desk: &mut Desk) -> io::Result<Shown> {
         Ok(match line {
             OwnerLine::Poll(ask, waker) => {
                 let came = self.poll(ask, *waker, desk);

@@ -224,6 +224,37 @@ fn left<F: Future<Output: Drop> + Drop, M: Fn() -> bool>(
     !is_polled || task.poll(&mut future).is_pending() && patience.until(met)
 }
 
+// Leaves a future that any open reader and writer has.
+fn leaves_open<A: AsyncRead + AsyncWrite, M: Fn() -> bool>(
+    owner: &mut A,
+    task: &MockTask,
+    patience: &Patience,
+    leaving: Leaving<'_>,
+    room: &mut [u8],
+    rest: &mut Vec<u8>,
+    met: M,
+) -> bool
+    requires reads { A.AsyncRead.closed owner.old → ⊥ }
+    requires writes { A.AsyncWrite.closed owner.old → ⊥ }
+    requires callable { M.IsAlwaysCallable met }
+{
+    let Leaving { lasting, is_polled } = leaving;
+    match lasting {
+        Lasting::Exact(_) => left(owner.read_exact(room), task, patience, is_polled, met),
+        Lasting::Rest => left(owner.read_to_end(rest), task, patience, is_polled, met),
+        Lasting::Whole(bytes) => {
+            left(
+                owner.write_all(bytes.as_slice()),
+                task,
+                patience,
+                is_polled,
+                met,
+            )
+        }
+        _ => false,
+    }
+}
+
 fn reads_exactly<A: AsyncRead>(
     owner: &mut A,
     task: &MockTask,
@@ -494,17 +525,6 @@ impl<J: Carrier<H>, H: Runtime + Drop> Lending<J, H> {
             return false;
         }
         match lasting {
-            Lasting::Exact(_) => left(owner.read_exact(room), task, patience, is_polled, met),
-            Lasting::Rest => left(owner.read_to_end(rest), task, patience, is_polled, met),
-            Lasting::Whole(bytes) => {
-                left(
-                    owner.write_all(bytes.as_slice()),
-                    task,
-                    patience,
-                    is_polled,
-                    met,
-                )
-            }
             Lasting::Jump(to) => {
                 left(
                     owner.with_mut(Jump { to: *to }),
@@ -514,7 +534,7 @@ impl<J: Carrier<H>, H: Runtime + Drop> Lending<J, H> {
                     met,
                 )
             }
-            _ => false,
+            _ => leaves_open(owner, task, patience, leaving, room, rest, met),
         }
     }
 }

@@ -7,7 +7,7 @@ use crate::desk::Desk;
 use crate::gates::GateNo;
 use crate::handle::Handle;
 use crate::line::{Alone, Callers, Line, OwnerLine, Parties, Point, REFUSED, plan_of};
-use crate::owned::{Owned, answered, exact_of, session_in, whether};
+use crate::owned::{Owned, OwnerAct, answered, exact_of, session_in, whether};
 use crate::owner::Lending;
 use crate::plan::Plan;
 use crate::player::{is_at_rest, reached};
@@ -354,6 +354,7 @@ impl<J: Carrier<H>, H: Runtime + Drop, Y: System> PoolStage<J, H, Y> {
         let number = self.cast.copiers.len();
         self.cast.copiers.push(Copied {
             copier: Some(copier),
+            count: 0,
             waker: self.system.waker()?,
             places: from.place.zip(to.place),
             reader: from.track,
@@ -430,6 +431,14 @@ impl<J: Carrier<H>, H: Runtime + Drop, Y: System> PoolStage<J, H, Y> {
         }
     }
 
+    // Asks an owner. One call for all, since each states anew what its type implements.
+    fn ask_owner(&mut self, place: usize, act: OwnerAct<'_>, desk: &mut Desk) -> io::Result<Shown> {
+        match self.cast.owners.get_mut(place) {
+            Some(owned) => owned.act(act, desk),
+            None => Ok(NOTHING),
+        }
+    }
+
     // What a line shows that is no party's.
     fn alone(&mut self, line: &Alone, desk: &mut Desk) -> io::Result<Shown> {
         Ok(match line {
@@ -469,10 +478,7 @@ impl<J: Carrier<H>, H: Runtime + Drop, Y: System> PoolStage<J, H, Y> {
             Line::Owner(_, OwnerLine::Leave(future, point)) => self.leave_future(
                 place, future, *point, desk,
             ),
-            Line::Owner(_, line) => match self.cast.owners.get_mut(place) {
-                Some(owned) => owned.play(line, desk)?,
-                None => NOTHING,
-            },
+            Line::Owner(_, line) => self.ask_owner(place, OwnerAct::Play(line), desk)?,
             Line::Task(_, line) => match self.cast.calls.get_mut(place) {
                 Some(called) => called.play(*line, desk),
                 None => NOTHING,
@@ -499,13 +505,6 @@ impl<J: Carrier<H>, H: Runtime + Drop, Y: System> PoolStage<J, H, Y> {
         }
     }
 
-    fn compare_refused(&mut self, place: usize, desk: &mut Desk) -> io::Result<()> {
-        match self.cast.owners.get_mut(place) {
-            Some(owned) => owned.compares_refused(desk),
-            None => Ok(()),
-        }
-    }
-
     fn finish(&mut self, desk: &mut Desk) {
         self.drop_all();
         let _ = self.pool.sweep();
@@ -528,7 +527,9 @@ impl<J: Carrier<H>, H: Runtime + Drop, Y: System> Stage for PoolStage<J, H, Y> {
             Act::BeginAgain => self.cast = Cast::new(desk.alloc),
             Act::End => self.end(),
             Act::Compare => self.compare(desk),
-            Act::CompareRefused(place) => self.compare_refused(place, desk)?,
+            Act::CompareRefused(place) => {
+                self.ask_owner(place, OwnerAct::CompareRefused, desk)?;
+            }
             Act::Finish => self.finish(desk),
         }
         Ok(NOTHING)

@@ -161,10 +161,8 @@ pub(crate) enum Copying {
 
 /// A copier over two owners.
 pub(crate) trait Copies: Drop {
-    fn poll(&mut self, task: &MockTask) -> Copying;
-
-    /// How many bytes were taken by its writer.
-    fn copied(&self) -> u64;
+    /// What a poll shows, and how many bytes were taken by its writer so far.
+    fn poll(&mut self, task: &MockTask) -> (Copying, u64);
 
     /// Takes it apart, and drops the writer before the reader.
     fn take_apart(self);

@@ -1,12 +1,13 @@
 //! Jobs of each kind on one executor, whose job type is `Jobs`.
 use blocking::{
-    AsyncReadExt, AsyncSeekExt, AsyncWriteExt, Call, CallJob, CallOn, Carries, Executor, Host,
-    ItemJob, Items, Job, Jobs, OpJob, ReadJob, Reader, SeekJob, Unblock, WriteJob, Writer, unblock,
+    AsyncReadExt, AsyncSeekExt, AsyncWriteExt, Call, CallJob, CallOn, Carries, Executor, ItemJob,
+    Items, Job, Jobs, OpJob, ReadJob, Reader, Runtime, SeekJob, Unblock, WriteJob, Writer, unblock,
 };
 use futures::StreamExt;
 use futures::executor::block_on;
 use std::io;
 use std::io::{Read, Seek, SeekFrom, Write};
+use std::random::RandomSource;
 use std::test::Fail;
 
 // A handle of any kind: it reads and gives the numbers up to 3, counts its writes, and stands at 9 wherever it is moved.
@@ -84,7 +85,7 @@ impl CallOn<Few> for Give {
 type All<H> = Jobs<H, Give, Few, Few, Few, Few, Give, Few>;
 
 // Whether a call is answered by a pool of all kinds.
-fn call<J: Job + Carries<CallJob<Give, H>>, H: Host>(
+fn call<J: Job + Carries<CallJob<Give, H>>, H: Runtime + RandomSource>(
     rt: H,
     pool: &Executor<J, H>,
 ) -> io::Result<bool> {
@@ -96,7 +97,7 @@ fn call<J: Job + Carries<CallJob<Give, H>>, H: Host>(
 }
 
 // Whether a handle lent to a pool of all kinds is read to its end.
-fn read<J: Job + Carries<ReadJob<Few, H>>, H: Host>(
+fn read<J: Job + Carries<ReadJob<Few, H>>, H: Runtime + RandomSource>(
     rt: H,
     pool: &Executor<J, H>,
 ) -> io::Result<bool> {
@@ -107,7 +108,7 @@ fn read<J: Job + Carries<ReadJob<Few, H>>, H: Host>(
 }
 
 // The same of one that is written to and flushed.
-fn write<J: Job + Carries<WriteJob<Few, H>>, H: Host>(
+fn write<J: Job + Carries<WriteJob<Few, H>>, H: Runtime + RandomSource>(
     rt: H,
     pool: &Executor<J, H>,
 ) -> io::Result<bool> {
@@ -118,7 +119,7 @@ fn write<J: Job + Carries<WriteJob<Few, H>>, H: Host>(
 }
 
 // The same of one that gives its next item.
-fn item<J: Job + Carries<ItemJob<Few, u8, H>>, H: Host>(
+fn item<J: Job + Carries<ItemJob<Few, u8, H>>, H: Runtime + RandomSource>(
     rt: H,
     pool: &Executor<J, H>,
 ) -> io::Result<bool> {
@@ -128,7 +129,7 @@ fn item<J: Job + Carries<ItemJob<Few, u8, H>>, H: Host>(
 }
 
 // The same of one that is moved.
-fn seek<J: Job + Carries<SeekJob<Few, H>>, H: Host>(
+fn seek<J: Job + Carries<SeekJob<Few, H>>, H: Runtime + RandomSource>(
     rt: H,
     pool: &Executor<J, H>,
 ) -> io::Result<bool> {
@@ -138,7 +139,7 @@ fn seek<J: Job + Carries<SeekJob<Few, H>>, H: Host>(
 }
 
 // The same of one that is operated on.
-fn op<J: Job + Carries<OpJob<Give, Few, H>>, H: Host>(
+fn op<J: Job + Carries<OpJob<Give, Few, H>>, H: Runtime + RandomSource>(
     rt: H,
     pool: &Executor<J, H>,
 ) -> io::Result<bool> {

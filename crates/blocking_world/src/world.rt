@@ -1,5 +1,6 @@
 //! A world that keeps what was seen of it.
 ghost use Rattle.std.specs.Prelude.{◌≡◌, ◌<◌, ◌∷◌, [], length, true, IfOk, OnErr};
+ghost use Rattle.blocking_headline.specs.Headline.{Headline};
 ghost use Rattle.blocking_pool.specs.Limits.{limit_of_setting};
 ghost use Rattle.blocking_world_laws.specs.Counts.{workers, idle};
 ghost use Rattle.blocking_world_laws.specs.Growth.{IsPlanned, known_limit};
@@ -74,6 +75,7 @@ impl World {
           turns = 0;
         } }
         ensures legal { Legal result.history.setting result.history.plan result.history.past }
+        ensures headline { Headline result.history.setting result.history.past }
     {
         World {
             assembly: Assembly::new(alloc, setting),
@@ -194,6 +196,7 @@ pub fn run(alloc: Global, world: &mut World, steps: &[Step]) -> Result<Vec<Event
         (λ events. Adds steps.now events.items world.old.history world.new.history) }
     ensures err { OnErr result (StopsShort steps.now world.old.history world.new.history) }
     ensures legal { Legal world.new.history.setting world.new.history.plan world.new.history.past }
+    ensures headline { Headline world.new.history.setting world.new.history.past }
     ensures independent { AreIndependent world.new.history.past }
     ensures unlimited { NeverLimited world.new.history.past →
         IsBeginning (takes world.new.history.past) (entries world.new.history.past) }

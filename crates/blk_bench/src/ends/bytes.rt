@@ -9,6 +9,7 @@ use futures::channel::oneshot;
 use futures::executor::block_on;
 use futures::task::{Context, Poll};
 use std::io;
+use std::random::RandomSource;
 use std::sync::Wait;
 use std::time::Instant;
 
@@ -101,7 +102,11 @@ impl<'a, J: Job, H: Runtime> Future for Filling<'a, J, H> {
 }
 
 // All bytes of the source to a job.
-fn cross<R: Host>(host: R, executor: &Executor<Taker<R>, R>, source: &[u8]) -> io::Result<()> {
+fn cross<R: Runtime + RandomSource>(
+    host: R,
+    executor: &Executor<Taker<R>, R>,
+    source: &[u8],
+) -> io::Result<()> {
     let (told, tells) = oneshot::channel(host.alloc())?;
     let (end, theirs) = link_in(host, PIECE)?;
     let taker = Taker {
@@ -125,7 +130,7 @@ fn cross<R: Host>(host: R, executor: &Executor<Taker<R>, R>, source: &[u8]) -> i
 }
 
 // One crossing, in MB/s.
-fn once<R: Host>(
+fn once<R: Runtime + RandomSource>(
     rt: HostRuntime,
     host: R,
     executor: &Executor<Taker<R>, R>,
@@ -150,7 +155,7 @@ pub(crate) fn run<R: Host>(
     }
 }
 
-fn run_over<R: Host>(
+fn run_over<R: Runtime + RandomSource>(
     rt: HostRuntime,
     host: R,
     executor: &Executor<Taker<R>, R>,

@@ -8,6 +8,7 @@ use futures::Future;
 use futures::executor::block_on;
 use futures::task::{Context, Poll};
 use std::io;
+use std::random::RandomSource;
 use std::sync::Wait;
 use std::time::Instant;
 
@@ -115,7 +116,11 @@ impl<'a, J: Job, H: Runtime> Future for Counted<'a, J, H> {
 }
 
 // All numbers from a job to this thread.
-fn cross<R: Host>(host: R, executor: &Executor<Counter<R>, R>, size: u64) -> io::Result<()> {
+fn cross<R: Runtime + RandomSource>(
+    host: R,
+    executor: &Executor<Counter<R>, R>,
+    size: u64,
+) -> io::Result<()> {
     let batches = LendingMemory::with_piece(host.alloc(), DEFAULT_ITEMS, BATCH)?;
     let memory = PieceMemory::over(host.alloc(), batches)?;
     let (theirs, end, mut batch) = link_drain(host, memory)?;
@@ -140,7 +145,7 @@ fn cross<R: Host>(host: R, executor: &Executor<Counter<R>, R>, size: u64) -> io:
 }
 
 // One crossing, in ns an item.
-fn once<R: Host>(
+fn once<R: Runtime + RandomSource>(
     rt: HostRuntime,
     host: R,
     executor: &Executor<Counter<R>, R>,
@@ -164,7 +169,7 @@ pub(crate) fn run<R: Host>(
     }
 }
 
-fn run_over<R: Host>(
+fn run_over<R: Runtime + RandomSource>(
     rt: HostRuntime,
     host: R,
     executor: &Executor<Counter<R>, R>,
