@@ -6,6 +6,7 @@ use blocking_core::task::Call;
 use futures::executor::block_on;
 use std::io;
 use std::io::ErrorKind;
+use std::random::RandomSource;
 use std::sync::Arc;
 use std::sync::atomic::{AtomicU64, Ordering};
 use std::test::Fail;
@@ -100,7 +101,7 @@ fn come_to_rest<J: Job, H: Runtime>(ticks: &Executor<J, H>) -> bool {
 }
 
 // Begins the calls of all users.
-fn begin<H: Host>(
+fn begin<H: Runtime + RandomSource>(
     rt: &H,
     ticks: &Executor<Ticks<H>, H>,
     users: &Users<H>,
@@ -119,7 +120,7 @@ fn begin<H: Host>(
 }
 
 // How many users there were for whom the counts agreed.
-fn users_agree<J: Job + Carries<CallJob<Tick, H>>, H: Host>(
+fn users_agree<J: Job + Carries<CallJob<Tick, H>>, H: Runtime + RandomSource>(
     rt: &H,
     tasks: Vec<Task<User<J, H>, H>>,
 ) -> io::Result<u64> {
@@ -133,11 +134,21 @@ fn users_agree<J: Job + Carries<CallJob<Tick, H>>, H: Host>(
 }
 
 // For how many users the counts agreed, and whether all jobs came to be over after them.
+fn agree_over<H: Runtime + RandomSource>(
+    rt: &H,
+    ticks: &Executor<Ticks<H>, H>,
+    users: &Users<H>,
+    made: &Arc<AtomicU64>,
+) -> io::Result<(u64, bool)> {
+    let tasks = begin(rt, ticks, users, made)?;
+    Ok((users_agree(rt, tasks)?, come_to_rest(ticks)))
+}
+
+// The same over pools of their own.
 fn all_agree<H: Host>(rt: H, made: &Arc<AtomicU64>) -> Result<(u64, bool), Fail> {
     let ticks = Executor::<Ticks<H>, H>::new(rt, None)?;
     let users = Users::<H>::new(rt, Some("4"))?;
-    let tasks = begin(&rt, &ticks, &users, made)?;
-    Ok((users_agree(&rt, tasks)?, come_to_rest(&ticks)))
+    Ok(agree_over(&rt, &ticks, &users, made)?)
 }
 
 #[test]

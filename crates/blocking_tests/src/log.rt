@@ -1,9 +1,10 @@
 //! A log of several producers, each on a thread of its own. A line whose producer goes on is in the file.
-use blocking::{AsyncWrite, AsyncWriteExt, Executor, Host, WriteJob};
+use blocking::{AsyncWrite, AsyncWriteExt, Executor, Host, Runtime, WriteJob};
 use blocking_anytime::{Open, OpenWriter};
 use futures::executor::block_on;
 use std::fs::File;
 use std::io;
+use std::random::RandomSource;
 use std::sync::Mutex;
 
 /// A log that its producers share.
@@ -16,11 +17,19 @@ pub(crate) fn log_to<H: Host>(rt: H, file: File) -> io::Result<Log<H>> {
 }
 
 /// Logs a line, which is in the file then.
-pub(crate) fn log_line<H: Host>(rt: H, log: &Log<H>, line: &str) -> io::Result<()> {
+pub(crate) fn log_line<H: Runtime + RandomSource>(
+    rt: H,
+    log: &Log<H>,
+    line: &str,
+) -> io::Result<()> {
     write_line(&rt, &mut *log.lock(&rt), line)
 }
 
-fn write_line<A: AsyncWrite, H: Host>(rt: &H, log: &mut A, line: &str) -> io::Result<()>
+fn write_line<A: AsyncWrite, H: Runtime + RandomSource>(
+    rt: &H,
+    log: &mut A,
+    line: &str,
+) -> io::Result<()>
     requires { A.closed log.old → ⊥ }
 {
     block_on(rt, log.write_all(line.as_bytes()))??;

@@ -1,11 +1,13 @@
 //! One executor for reads, writes and calls: a file is read, each piece is summed up by a call, and the sums are written to another file.
 use blocking::{
-    AsyncRead, AsyncReadExt, AsyncWrite, AsyncWriteExt, Call, CallFileJobs, Executor, Host, unblock,
+    AsyncRead, AsyncReadExt, AsyncWrite, AsyncWriteExt, Call, CallFileJobs, Executor, Host,
+    Runtime, unblock,
 };
 use blocking_anytime::{Open, OpenReader, OpenWriter};
 use futures::executor::block_on;
 use std::fs::File;
 use std::io;
+use std::random::RandomSource;
 
 type Work<H> = CallFileJobs<H, Sum>;
 
@@ -33,7 +35,7 @@ pub(crate) fn sum_up<H: Host>(rt: H, from: File, to: File) -> io::Result<u64> {
     sum_pieces(rt, &executor, &mut from, &mut to)
 }
 
-fn sum_pieces<A: AsyncRead, B: AsyncWrite, H: Host>(
+fn sum_pieces<A: AsyncRead, B: AsyncWrite, H: Runtime + RandomSource>(
     rt: H,
     executor: &Executor<Work<H>, H>,
     from: &mut A,

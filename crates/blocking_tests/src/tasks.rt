@@ -1,12 +1,13 @@
 //! Calls in sets and in pairs.
 use crate::walker::bytes_in;
-use blocking::{Call, CallJob, Carries, Executor, Host, Job, unblock};
+use blocking::{Call, CallJob, Carries, Executor, Host, Job, Runtime, unblock};
 use blocking_anytime::{CallSet, FusedTask};
 use futures::StreamExt;
 use futures::executor::block_on;
 use futures::future::join;
 use futures::task::Poll;
 use futures::test::MockTask;
+use std::random::RandomSource;
 use std::test::Fail;
 use std::{env, fs, io};
 
@@ -33,7 +34,7 @@ fn pool<H: Host>(rt: H) -> io::Result<Doublers<H>> {
 }
 
 // Doubles the numbers below eight, and whatever comes below 50 once more, in a set. How many answers came, and their sum.
-fn in_a_set<J: Job + Carries<CallJob<Double, H>>, H: Host>(
+fn in_a_set<J: Job + Carries<CallJob<Double, H>>, H: Runtime + RandomSource>(
     rt: H,
     executor: &Executor<J, H>,
 ) -> io::Result<(u32, u64)> {
@@ -63,7 +64,7 @@ fn answers_come_of_a_set_that_grows(rt: HostRuntime) -> Result<(), Fail> {
 }
 
 // (a pair polls each task to its answer and not again, so plain ones are enough)
-fn in_a_pair<J: Job + Carries<CallJob<Double, H>>, H: Host>(
+fn in_a_pair<J: Job + Carries<CallJob<Double, H>>, H: Runtime + RandomSource>(
     rt: H,
     executor: &Executor<J, H>,
 ) -> io::Result<(u64, u64)> {
@@ -73,7 +74,7 @@ fn in_a_pair<J: Job + Carries<CallJob<Double, H>>, H: Host>(
 }
 
 // The same of tasks that may be polled at any time.
-fn fused_in_a_pair<J: Job + Carries<CallJob<Double, H>>, H: Host>(
+fn fused_in_a_pair<J: Job + Carries<CallJob<Double, H>>, H: Runtime + RandomSource>(
     rt: H,
     executor: &Executor<J, H>,
 ) -> io::Result<(u64, u64)> {
@@ -91,7 +92,7 @@ fn answers_come_in_a_pair(rt: HostRuntime) -> Result<(), Fail> {
 }
 
 // Awaits an answer, and polls once more: the answer, whether that poll waits and whether it woke its own task, and whether a task is left.
-fn polled_behind<J: Job + Carries<CallJob<Double, H>>, H: Host>(
+fn polled_behind<J: Job + Carries<CallJob<Double, H>>, H: Runtime + RandomSource>(
     rt: H,
     executor: &Executor<J, H>,
 ) -> io::Result<(u64, bool, bool, bool)> {
@@ -111,7 +112,7 @@ fn a_poll_behind_the_answer_waits(rt: HostRuntime) -> Result<(), Fail> {
 }
 
 // Takes the task back before it is polled, and awaits it.
-fn taken_back<J: Job + Carries<CallJob<Double, H>>, H: Host>(
+fn taken_back<J: Job + Carries<CallJob<Double, H>>, H: Runtime + RandomSource>(
     rt: H,
     executor: &Executor<J, H>,
 ) -> io::Result<u64> {

@@ -5,6 +5,7 @@ use blocking_core::pool::{Job, JobNo, JobStep, WakeNote, Woke};
 use blocking_core::task::Call;
 use futures::executor::block_on;
 use std::io;
+use std::random::RandomSource;
 use std::sync::Arc;
 use std::sync::atomic::{AtomicBool, AtomicUsize, Ordering};
 use std::test::Fail;
@@ -130,7 +131,7 @@ impl<J: Job, H: Runtime> Call for Wakes<J, H> {
 }
 
 // Adds the jobs, one by one, each once the one before has taken its step. The last one stops in it. (fewer where one is refused)
-fn add_all<H: Host>(
+fn add_all<H: Runtime + RandomSource>(
     rt: H,
     jobs: &Executor<Waiter, H>,
     track: &Arc<Track>,
@@ -151,7 +152,7 @@ fn add_all<H: Host>(
 }
 
 // Whether both threads come to wake all.
-fn wake_all<H: Host>(
+fn wake_all<H: Runtime + RandomSource>(
     rt: &H,
     threads: &Executor<CallJob<Wakes<Waiter, H>, H>, H>,
     first: Wakes<Waiter, H>,
@@ -167,7 +168,7 @@ fn wake_all<H: Host>(
 }
 
 // The two threads' calls.
-fn pair<J: Job, H: Host>(
+fn pair<J: Job, H: Runtime + RandomSource>(
     rt: H,
     jobs: &Executor<J, H>,
     numbers: &Arc<Vec<JobNo>>,
