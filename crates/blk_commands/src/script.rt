@@ -8,7 +8,7 @@ use crate::line::{Saying, plan_of, saying_of, text_of};
 use std::alloc::{AllocError, AllocFailed, Global};
 
 /// A script, as its lines say it.
-#[derive(Debug)]
+#[derive(Debug, Drop)]
 pub struct Script {
     /// The text of the setting, if there is one.
     pub setting: Option<String>,
@@ -16,17 +16,6 @@ pub struct Script {
     pub plan: Vec<bool>,
     /// The instructions, in order.
     pub instructions: Vec<Instruction>,
-}
-
-// By hand, since a crate that drops one would prove a derived drop anew.
-impl Drop for Script {
-    fn drop(self) {
-        let Script {
-            setting: _setting,
-            plan: _plan,
-            instructions: _instructions,
-        } = self;
-    }
 }
 
 /// Why a text wasn't read.
