@@ -59,7 +59,7 @@ impl Inside {
     }
 }
 
-/// What is seen of a call.
+/// The counts of a call: its runs and its drops.
 #[derive(Drop)]
 pub(crate) struct CallTrack {
     made: AtomicU64,
@@ -93,8 +93,9 @@ pub(crate) struct CallPlan {
     /// How many milliseconds it takes.
     pub takes: u64,
     pub stop: Stop,
-    /// Where it stands when it is dropped unmade, or its answer is.
+    /// The gate at which the drop of an unmade call waits.
     pub dropping: Stop,
+    /// The gate at which the drop of its answer waits.
     pub answer_dropping: Stop,
 }
 
